@@ -2,7 +2,7 @@
 use Rattle.std.proofs.Common.{◌≡◌, ℕ, ◌≤◌, Bool, true, false, ◌||◌, not, cond, List, Some, None, Result, Ok, Err, IfOk, arith, refl, sym, subst, ap, ◌∙◌}
 use Rattle.std.specs.Prelude.{Option, IfErr, if◌then◌else◌, nat_lt, bytes_eq, codes}
 use Rattle.std.specs.Option.{ok_or}
-use Rattle.std.proofs.lemmas.Bool.{ltb-false}
+use Rattle.std.proofs.lemmas.Bool.{ltb-false, or_parts}
 use Rattle.std.proofs.lemmas.Slice.Eq.{bytes_eq-Decides}
 use Rattle.http_wire.specs.Head.{Head}
 use Rattle.http_wire.specs.Fields.{body_length}
@@ -10,7 +10,7 @@ use Rattle.http_wire.specs.declared.requests.BodyLength.{BodyLength}
 use Rattle.http_wire.specs.declared.requests.BodyLength.TheVariants.{Known, Missing, Wrong}
 use Rattle.mvn_coords.specs.declared.fault.PathFault.{PathFault}
 use Rattle.mvn_coords.specs.declared.kind.Kind.{Kind}
-use Rattle.mvn_coords.specs.declared.kind.Kind.TheVariants.{File, FileSide, Doc, DocSide}
+use Rattle.mvn_coords.specs.declared.kind.Kind.TheVariants.{File}
 use Rattle.mvn_coords.specs.Kind.{kind}
 use Rattle.repo_model.specs.Data.{Place, repository, session}
 use Rattle.repo_model.specs.Settings.{Settings}
@@ -18,14 +18,15 @@ use Rattle.repo_routes.specs.declared.judging.Refused.{Refused}
 use Rattle.repo_routes.specs.declared.refusal.Refusal.{Refusal}
 use Rattle.repo_routes.specs.declared.refusal.Refusal.TheVariants as refusal
 use Rattle.repo_routes.specs.Framing as framing
-use Rattle.repo_routes.specs.Framing.{check_host, ends_connection, has_body, is_head, is_post, is_put, is_read}
+use Rattle.repo_routes.specs.Framing.{check_host, ends_connection, has_body, is_post, is_put}
 use Rattle.repo_routes.specs.Intent.{Intent, Judged, reads as reads_path}
 use Rattle.repo_routes.specs.Judge.{check_body, in_repo, intent_of, intent_on, into_session, judge, loses_place, of_session, outcome_of}
 use Rattle.repo_routes.specs.Numbers.{session_of}
 use Rattle.repo_routes.specs.Paths.{check_limit, decoded, limit_of, path_refusal, put_at, put_of, put_to, read_from, thing_at, thing_of, thing_or}
-use Rattle.repo_routes.specs.Routes.{Route, in_repository, sessions, in_session, commit, abort, question, clean, allowed, allows, check_method, check_repository, route_of, sort_of}
+use Rattle.repo_routes.specs.Routes.{Route, in_repository, in_session, commit, abort, question, allowed, allows, check_method, check_repository, route_of, sort_of}
 use Rattle.repo_routes.specs.Steps.{◌>>=◌, need}
 use Rattle.repo_routes.specs.Target.{target_path}
+use Rattle.repo_routes.proofs.KeptLemmas.{put-is-no-read}
 use Rattle.course_laws.specs.Duties.{length_of}
 
 -- what holds of each end of what follows a step holds of the ends of both
@@ -38,33 +39,10 @@ needed : (test : Bool) (cause : Refusal) → need test cause ≡ Ok tt → test 
 needed true cause e = refl
 needed false cause e = cc
 
--- neither GET nor HEAD is PUT
-put-is-no-read : (head : Head) → is_read head ≡ true → is_put head ≡ false
-unfolding is_read is_put is_head
-put-is-no-read head read =
-    elim (bytes_eq head.method (codes "PUT")) as (λ b. bytes_eq head.method (codes "PUT") ≡ b → b ≡ false) [
-      | true ↦ λ is.
-          let method : head.method ≡ codes "PUT" = (bytes_eq-Decides head.method (codes "PUT")).0 is in
-          absurd (clash (subst (λ m. (bytes_eq m (codes "GET") || bytes_eq m (codes "HEAD")) ≡ true) method read))
-      | false ↦ λ is. refl
-    ] refl
-  where
-    clash : false ≡ true → ⊥
-    clash is = cc
-
--- nor is POST
+-- POST is not PUT
 put-is-no-post : (head : Head) → is_post head ≡ true → is_put head ≡ false
 unfolding is_post is_put
-put-is-no-post head post =
-    elim (bytes_eq head.method (codes "PUT")) as (λ b. bytes_eq head.method (codes "PUT") ≡ b → b ≡ false) [
-      | true ↦ λ is.
-          let method : head.method ≡ codes "PUT" = (bytes_eq-Decides head.method (codes "PUT")).0 is in
-          absurd (clash (subst (λ m. bytes_eq m (codes "POST") ≡ true) method post))
-      | false ↦ λ is. refl
-    ] refl
-  where
-    clash : false ≡ true → ⊥
-    clash is = cc
+put-is-no-post head post = subst (λ m. bytes_eq m (codes "PUT") ≡ false) (sym ((bytes_eq-Decides head.method (codes "POST")).0 post)) refl
 
 -- no bytes where no PUT brings any
 no-bytes : (put : Bool) (length : ℕ) → (put || not (nat_lt 0 length)) ≡ true → put ≡ false → 0 ≡ length
@@ -77,9 +55,7 @@ no-bytes false length test is =
 
 put-announced : (place : Place) (path : List ℕ) (length : ℕ) (k : Kind) → length_of (put_of place path length (thing_of k)) ≡ length
 put-announced place path length (File c) = refl
-put-announced place path length (FileSide c side) = refl
-put-announced place path length (Doc d) = refl
-put-announced place path length (DocSide d side) = refl
+put-announced place path length _ = refl
 
 kind-announced : (settings : Settings) (head : Head) (place : Place) (path : List ℕ) (length : ℕ) (k : Result Kind PathFault)
     → IfOk (thing_or (path_refusal head) k >>= (λ what. put_at settings place path length what)) (λ intent. length_of intent ≡ length)
@@ -121,14 +97,13 @@ on-announced : (settings : Settings) (head : Head) (length : ℕ) (route : Route
     → (is_put head || not (nat_lt 0 length)) ≡ true → IfOk (intent_on settings head length route) (λ intent. length_of intent ≡ length)
 unfolding in_repo
 on-announced settings head length (in_repository repo written) may test = in-announced settings head length (is_put head) repo written test
-on-announced settings head length (sessions repo) may test = no-bytes (is_put head) length test (put-is-no-post head may)
 on-announced settings head length (in_session number written) may test = into-announced settings head length number written
 on-announced settings head length (commit number) may test =
     of-announced Intent.commits length number (λ n. no-bytes (is_put head) length test (put-is-no-post head may))
 on-announced settings head length (abort number) may test =
     of-announced Intent.aborts length number (λ n. no-bytes (is_put head) length test (put-is-no-post head may))
 on-announced settings head length (question what) may test = no-bytes (is_put head) length test (put-is-no-read head may)
-on-announced settings head length clean may test = no-bytes (is_put head) length test (put-is-no-post head may)
+on-announced settings head length _ may test = no-bytes (is_put head) length test (put-is-no-post head may)
 
 intent-announced : (settings : Settings) (head : Head) → IfOk (intent_of settings head) (λ intent. framing.length_of head ≡ Ok (length_of intent))
 unfolding intent_of check_method check_body
@@ -208,27 +183,20 @@ none-announced head length said none =
   where
     pick : (chunked put : Bool) (b : BodyLength) → (if chunked then Err refusal.NoLength else framing.length_said put b) ≡ Ok length
         → framing.is_filled b ≡ false → length ≡ 0
-    pick true put b e f = absurd (cc)
     pick false put (Known n) e f =
         let same : n ≡ length = (cc) in
         let le : n ≤ 0 = ltb-false 0 n f in omega arith
-    pick false put Wrong e f = absurd (cc)
-    pick false true Missing e f = absurd (cc)
-    pick false false Missing e f = (cc)
+    pick false true Missing e f = (cc)
+    pick _ _ _ e f = (cc)
 
 pub refused-body : (settings : Settings) (head : Head) → IfErr (judge settings head) (λ refused. refused.close ≡ false → framing.length_of head ≡ Ok 0)
 unfolding judge
 refused-body settings head = pick (intent_of settings head) (intent-refused settings head)
   where
-    both : (a b c : Bool) → (a || (b || c)) ≡ false → (a ≡ false) × (c ≡ false)
-    both true b c is = absurd (cc)
-    both false true c is = absurd (cc)
-    both false false c is = (refl, is)
-
     pick : (r : Result Intent Refusal) → IfErr r (Knows head)
         → IfErr (outcome_of head r) (λ (refused : Refused). refused.close ≡ false → framing.length_of head ≡ Ok 0)
     pick (Ok intent) knows = tt
     pick (Err cause) knows = λ goes.
-        let open_so = both (loses_place cause) (ends_connection head) (has_body head) goes in
+        let open_so = or_parts (loses_place cause) (ends_connection head || has_body head) goes in
         let known = knows open_so.0 in
-        none-announced head known.0 known.1 open_so.1
+        none-announced head known.0 known.1 (or_parts (ends_connection head) (has_body head) open_so.1).1

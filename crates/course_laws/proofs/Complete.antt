@@ -15,9 +15,7 @@ use Rattle.mvn_coords.specs.declared.kind.Kind.TheVariants.{File, FileSide, Doc,
 use Rattle.mvn_coords.specs.Kind.{kind}
 use Rattle.mvn_coords.specs.Layout.{text_of}
 use Rattle.mvn_digest.specs.Digests.{digests_of}
-use Rattle.mvn_digest.specs.Sides.{read_side, side_text}
-use Rattle.mvn_doc.specs.Reading.{reading}
-use Rattle.mvn_metadata.specs.Document.{Document}
+use Rattle.mvn_digest.specs.Sides.{side_text}
 use Rattle.outside.specs.declared.faults.BlobFault.TheVariants as unstored
 use Rattle.remote_fetch.specs.declared.contents.Content.{Content}
 use Rattle.remote_fetch.specs.declared.contents.Content.TheVariants as content
@@ -25,7 +23,7 @@ use Rattle.remote_fetch.specs.declared.fetching.Checked.{Checked}
 use Rattle.repo_model.specs.Asking.{IsPlan, members_of}
 use Rattle.repo_model.specs.Command.{Command, look, done, land, group_rule_of, is_there}
 use Rattle.repo_model.specs.Data.{Blob, Hosted, Row}
-use Rattle.repo_model.specs.Fetched.{Landing, got_file, got_doc}
+use Rattle.repo_model.specs.Fetched.{Landing, got_file}
 use Rattle.repo_model.specs.History.{Entry, Fits, IsReply, due as due_reply, wants_memory, failed}
 use Rattle.repo_model.specs.Effect.{lends}
 use Rattle.repo_model.specs.Reply.{Reply, file, missed, fetches, landed, no_memory, spent, store_fault}
@@ -35,7 +33,7 @@ use Rattle.repo_model.specs.Turn.{Turn, says as turn_says, Seen, is_file, is_tex
 use Rattle.repo_laws.specs.Sound.{Sound}
 use Rattle.repo_laws.proofs.Cases.{Case, misses, turn-case}
 use Rattle.repo_laws.proofs.Plans.{look-plans}
-use Rattle.repo_routes.specs.Intent.{Intent, reads as reads_path, puts_side, puts_document, Judged}
+use Rattle.repo_routes.specs.Intent.{Intent, reads as reads_path, Judged}
 use Rattle.repo_routes.specs.Judge.{IsIntent, IsJudged}
 use Rattle.repo_routes.specs.Routes.{sort_of}
 use Rattle.repo_routes.specs.declared.intent.Sort.{Sort}
@@ -52,11 +50,12 @@ use Rattle.repo_course.specs.declared.said.Said.TheVariants.{NoMemory}
 use Rattle.repo_course.specs.Course.{Close, Course, Kept, asks, does, says, stops, speaks, send_file, fetch, store_fetched, after_fetch, after_land, after_look, after_store, answers, closes, course_of, fetch_fault, fetched, gives_any_up, is_group, lands, looks, manner_for, of_sent, of_store, refuses_head, rounds_of, said_missed, said_of, stores, tells, with_fault}
 use Rattle.repo_course.specs.Meets.{IsOfPlan}
 use Rattle.course_laws.specs.Complete.{HadRoom, IsAnswer, IsComplete, HadRoomBy}
-use Rattle.course_laws.specs.Duties.{Keeps, MayAsk, Rounds, Stand, at_first, by_digest, by_document, due_after, for_text, left_by, most_for, no_rounds, stand_after, stand_done, target_of}
+use Rattle.course_laws.specs.Duties.{Keeps, MayAsk, Rounds, Stand, at_first, due_after, for_text, left_by, most_for, no_rounds, stand_after, stand_done, target_of}
 use Rattle.course_laws.proofs.Kept.{judged-keeps}
 use Rattle.course_laws.proofs.Rounds.{AreOnce, AreBelow, below-last, once-last, one-is-left}
 use Rattle.repo_course.specs.Deeds.{Sequel, goes_on, by_its_text, ends_by, sequel, rests}
 use Rattle.course_laws.specs.Deeds.{due_behind}
+use Rattle.course_laws.proofs.Unsent.{text-due}
 
 -- what is due is no want of memory
 abbrev IsHeard : Option Close → Type 0
@@ -135,12 +134,7 @@ module _ (settings : Settings) where
 
   sent-complete : (blob : Blob) (manner : Manner) (result : Sent) → HadRoom (send_file blob manner) result → IsComplete settings (closes manner (of_sent manner result))
   sent-complete blob manner sent.NoMemory room = absurd room
-  sent-complete blob manner sent.Whole room = tt
-  sent-complete blob manner sent.BlobFault room = tt
-  sent-complete blob manner (sent.BlobDiffers recorded found) room = tt
-  sent-complete blob manner sent.CutFault room = tt
-  sent-complete blob manner (sent.CutDiffers recorded found) room = tt
-  sent-complete blob manner sent.SinkFault room = tt
+  sent-complete blob manner _ room = tt
 
   missed-answer : (so_far : Verdict) → IsAnswer (said_missed so_far)
   missed-answer (verdict.Unasked of_group) = tt
@@ -175,15 +169,7 @@ module _ (settings : Settings) where
 
     came-complete : (outcome : Came Content) → IsOfPlan plan (Some outcome) → IsComplete settings (fetched manner plan again outcome)
     came-complete (came.Got (content.File checked)) is = stores-complete checked plan.draft is.0
-    came-complete (came.Got (content.Doc document)) is = land-complete (came.Got (got_doc document))
-    came-complete came.Gone is = land-complete came.Gone
-    came-complete (came.Refused code) is = land-complete (came.Refused code)
-    came-complete came.NoChecksum is = land-complete came.NoChecksum
-    came-complete (came.Differs said found) is = land-complete (came.Differs said found)
-    came-complete came.TooLarge is = land-complete came.TooLarge
-    came-complete (came.BadAnswer at) is = land-complete (came.BadAnswer at)
-    came-complete (came.BadDocument at) is = land-complete (came.BadDocument at)
-    came-complete came.Fault is = land-complete came.Fault
+    came-complete _ is = land-complete _
 
   round-complete : (manner : Manner) (plan : Plan) (again : Option FetchFault → Course) → ((why : Option FetchFault) → IsComplete settings (again why))
       → IsComplete settings (does (fetch plan) (after_fetch manner plan again))
@@ -292,19 +278,6 @@ module _ (settings : Settings) where
         pick false is None = inr (tt, tt, refl)
         pick false is (Some g) = inr (tt, tt, zero-add (length g.members))
 
-digest-heard : (found : Option (List ℕ)) → IsHeard (by_digest found)
-digest-heard (Some digest) = tt
-digest-heard None = tt
-
-document-heard : (found : Result Document ℕ) → IsHeard (by_document found)
-document-heard (Ok document) = tt
-document-heard (Err at) = tt
-
-text-heard : (intent : Intent) (bytes : List ℕ) → IsHeard (for_text intent bytes)
-text-heard (puts_side place path side count) bytes = digest-heard (read_side side bytes)
-text-heard (puts_document place path count) bytes = document-heard (reading bytes)
-text-heard _ bytes = tt
-
 pub no-head-complete : (settings : Settings) (fault : HeadFault) → IsComplete settings (refuses_head fault)
 no-head-complete settings Broken = tt
 no-head-complete settings TooLong = tt
@@ -315,7 +288,7 @@ intent-complete settings request last (reads_path repo path of_sort) is kept =
     (looks-complete settings repo path (manner_for request last) (rounds_of of_sort) [] (verdict.Unasked (is_group of_sort))
     (subst (λ (x : Sort). HasRounds settings repo path (manner_for request last) (rounds_of x) []) (sym kept.2) (first-rounds settings repo path (manner_for request last))))
 intent-complete settings request last intent is kept =
-    keeps-complete settings (for_text request.intent) (text-heard request.intent) (manner_for request last) (course_of (Ok request) last) (most_for request.intent) (at_first request.expects request.intent)
+    keeps-complete settings (for_text request.intent) (text-due IsHeard tt tt (λ at. tt) request.intent) (manner_for request last) (course_of (Ok request) last) (most_for request.intent) (at_first request.expects request.intent)
     (judged-keeps (Ok request) last) (ap target_of is) tt
 
 pub judged-complete : (settings : Settings) (judged : Result Judged Refused) (last : Bool) → IfOk judged (IsJudged settings) → IsComplete settings (course_of judged last)

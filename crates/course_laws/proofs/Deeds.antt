@@ -196,9 +196,7 @@ sides-grew _ old new t = sides-stood old new t
 
 no-fault : (by_text : List ℕ → Option Close) (fault : Took) → GoesBy by_text (ends_by (of_fault fault)) → ⊥
 no-fault by_text took.Torn goes = goes
-no-fault by_text took.SourceFault goes = goes
-no-fault by_text (took.BlobFault unread) goes = goes
-no-fault by_text took.NoMemory goes = goes
+no-fault by_text _ goes = goes
 
 no-store : (by_text : List ℕ → Option Close) (why : BlobFault) → GoesBy by_text (ends_by (of_store why)) → ⊥
 no-store by_text unstored.Failed goes = goes
@@ -206,8 +204,7 @@ no-store by_text unstored.NoMemory goes = goes
 
 pub no-pass : (by_text : List ℕ → Option Close) (fault : CleanFault) → GoesBy by_text (ends_by (of_pass (Err fault))) → ⊥
 no-pass by_text clean_fault.StoreFault goes = goes
-no-pass by_text clean_fault.BlobFault goes = goes
-no-pass by_text clean_fault.NoMemory goes = goes
+no-pass by_text _ goes = goes
 
 -- the outcome of these ends the course, whatever it is
 abbrev pub GoesFurther : Deed → Type 0
@@ -301,14 +298,8 @@ module _ (settings : Settings) (tells : Type 0) (witness : tells) (manner : Mann
   none-written : new.output ≡ old.output → new.output ≡ behind old.output []
   none-written is = is ∙ sym (behind-none old.output)
 
-  reads-rose : (faults : ℕ) → Rose old.read_faults faults → new.read_faults ≡ faults → Rose old.read_faults new.read_faults
-  reads-rose faults rose is = subst (λ n. Rose old.read_faults n) (sym is) rose
-
-  writes-rose : (faults : ℕ) → Rose old.write_faults faults → new.write_faults ≡ faults → Rose old.write_faults new.write_faults
-  writes-rose faults rose is = subst (λ n. Rose old.write_faults n) (sym is) rose
-
-  blobs-rose : (faults : ℕ) → Rose old.blob_faults faults → new.blob_faults ≡ faults → Rose old.blob_faults new.blob_faults
-  blobs-rose faults rose is = subst (λ n. Rose old.blob_faults n) (sym is) rose
+  rose-as : (first faults now : ℕ) → Rose first faults → now ≡ faults → Rose first now
+  rose-as first faults now rose is = subst (λ n. Rose first n) (sym is) rose
 
   invite-played : (result : Continued) → s.waits ≡ true → Continues result old new → (coming : Fetched) → Comes invite result [] coming coming
   invite-played continued.Written waits t coming =
@@ -318,7 +309,7 @@ module _ (settings : Settings) (tells : Type 0) (witness : tells) (manner : Mann
       first front (inl none) = ap (λ b. continue_bytes ++ b) none ∙ append-nil continue_bytes
       first front (inr it) = let no : false ≡ true = it.0 in absurd (cc)
   invite-played continued.SinkFault waits t coming =
-      sink_fails t.1 t.3.0 refl (writes-rose t.0 t.2 (ap (λ (o : Outside). o.write_faults) t.4)) t.3.1 (ap (λ (o : Outside). o.output) t.4)
+      sink_fails t.1 t.3.0 refl (rose-as old.write_faults t.0 _ t.2 (ap (λ (o : Outside). o.write_faults) t.4)) t.3.1 (ap (λ (o : Outside). o.output) t.4)
 
   short-of : (count : ℕ) → IfSome (Some input) (λ bytes. length bytes < count) → length input < count
   short-of count short = short
@@ -340,8 +331,8 @@ module _ (settings : Settings) (tells : Type 0) (witness : tells) (manner : Mann
       is_torn (at st (drop count input) coming) (λ i. (torn-is i, [], at st (drop count input) coming)) refl (ap (λ (o : Outside). o.output) torn.1.1)
   take-played number count (Err took.SourceFault) t coming =
       let failed = fails-source count t.0 (record old { shelf = t.1 }) new t.3 in
-      source_fails refl (reads-rose failed.0 failed.1 (ap (λ (o : Outside). o.read_faults) failed.2.1)) (ap (λ (o : Outside). o.output) failed.2.1)
-  take-played number count (Err (took.BlobFault unread)) t coming = blob_fails (blobs-rose t.3.0 t.3.1 (ap (λ (o : Outside). o.blob_faults) t.3.4.2))
+      source_fails refl (rose-as old.read_faults failed.0 _ failed.1 (ap (λ (o : Outside). o.read_faults) failed.2.1)) (ap (λ (o : Outside). o.output) failed.2.1)
+  take-played number count (Err (took.BlobFault unread)) t coming = blob_fails (rose-as old.blob_faults t.3.0 _ t.3.1 (ap (λ (o : Outside). o.blob_faults) t.3.4.2))
   take-played number count (Err took.NoMemory) t coming = wants_room refl (ap (λ (o : Outside). o.output) t.3.1.2)
 
   read-played : (count : ℕ) (body : Body) → Reads count body old new → (coming : Fetched) → Comes (read_body count) body [] coming coming
@@ -356,7 +347,7 @@ module _ (settings : Settings) (tells : Type 0) (witness : tells) (manner : Mann
       let torn-is = body-torn count input short in
       is_torn (at st (drop count input) coming) (λ i. (torn-is i, [], at st (drop count input) coming)) refl (ap (λ (o : Outside). o.output) t.1.1)
   read-played count (Err took.SourceFault) t coming =
-      source_fails refl (reads-rose t.0 t.1 (ap (λ (o : Outside). o.read_faults) t.2.1)) (ap (λ (o : Outside). o.output) t.2.1)
+      source_fails refl (rose-as old.read_faults t.0 _ t.1 (ap (λ (o : Outside). o.read_faults) t.2.1)) (ap (λ (o : Outside). o.output) t.2.1)
   read-played count (Err (took.BlobFault unread)) t coming = absurd t
   read-played count (Err took.NoMemory) t coming = wants_room refl (unwritten count old new t)
 
@@ -369,17 +360,17 @@ module _ (settings : Settings) (tells : Type 0) (witness : tells) (manner : Mann
       as_played (file_bytes blob own) input refl (ap (λ (o : Outside). o.input) w.2 ∙ input_is)
       (ap (λ (o : Outside). o.output) w.2 ∙ ap (λ b. behind old.output (head ++ rest_of own.head_only b)) (sym (bytes-are blob.bytes w.0 told w.1.0))) hand (λ un front it. absurd un)
   send-played blob own sent.BlobFault told t coming =
-      let w = not-sent own.head_only blob (shown (file_answer blob own)) old new t in blob_fails (blobs-rose w.0 w.2 (ap (λ (o : Outside). o.blob_faults) w.3))
+      let w = not-sent own.head_only blob (shown (file_answer blob own)) old new t in blob_fails (rose-as old.blob_faults w.0 _ w.2 (ap (λ (o : Outside). o.blob_faults) w.3))
   send-played blob own (sent.BlobDiffers recorded found) told t coming =
       untold blob.bytes (other-found own.head_only blob (shown (file_answer blob own)) recorded found old new t).1.0 told
   send-played blob own sent.CutFault told t coming =
-      let w = cut-by-fault own.head_only blob (shown (file_answer blob own)) old new t in blob_fails (blobs-rose w.0 w.4 (ap (λ (o : Outside). o.blob_faults) w.7))
+      let w = cut-by-fault own.head_only blob (shown (file_answer blob own)) old new t in blob_fails (rose-as old.blob_faults w.0 _ w.4 (ap (λ (o : Outside). o.blob_faults) w.7))
   send-played blob own (sent.CutDiffers recorded found) told t coming =
       untold blob.bytes (cut-by-other own.head_only blob (shown (file_answer blob own)) recorded found old new t).3.0 told
   send-played blob own sent.SinkFault told t coming =
       let head = shown (file_answer blob own) in
       let w = sent-in-part own.head_only blob head old new t in
-      sink_fails w.2 w.5.0 refl (writes-rose w.0 w.3 (ap (λ (o : Outside). o.write_faults) w.6))
+      sink_fails w.2 w.5.0 refl (rose-as old.write_faults w.0 _ w.3 (ap (λ (o : Outside). o.write_faults) w.6))
       (ap (λ b. head ++ rest_of own.head_only b) (bytes-are blob.bytes w.1 told w.4.0) ∙ w.5.1) (ap (λ (o : Outside). o.output) w.6)
   send-played blob own sent.NoMemory told t coming =
       wants_room refl (ap (λ (o : Outside). o.output) (sent-nothing own.head_only blob (shown (file_answer blob own)) old new t))
@@ -393,7 +384,7 @@ module _ (settings : Settings) (tells : Type 0) (witness : tells) (manner : Mann
   clean-played repos (Err clean_fault.StoreFault) mine legal calm clock kept t is coming =
       absurd (passes-hold repos mine _ kept _ t (no-store-faults settings mine st legal calm (passes-ask repos mine _ kept _ t)) refl)
   clean-played repos (Err clean_fault.BlobFault) mine legal calm clock kept t is coming =
-      blob_fails (blobs-rose kept.faults (passes-rose repos mine (store_of old) kept t) (ap (λ (o : Outside). o.blob_faults) is))
+      blob_fails (rose-as old.blob_faults kept.faults _ (passes-rose repos mine (store_of old) kept t) (ap (λ (o : Outside). o.blob_faults) is))
   clean-played repos (Err clean_fault.NoMemory) mine legal calm clock kept t is coming = wants_room refl (ap (λ (o : Outside). o.output) is)
 
   fetch-played : (plan : Plan) (outcome : Fetch) → Fetches plan outcome old new → (coming unused : Fetched) → coming ≡ outcome ∷ unused
@@ -411,7 +402,7 @@ module _ (settings : Settings) (tells : Type 0) (witness : tells) (manner : Mann
       let whole-is = blob-is blob number checked.bytes t.1 told t.2 in
       as_played [] input (λ i. (Ok (whole-is i), [], at st input coming)) (ap (λ (o : Outside). o.input) t.0 ∙ input_is)
       (none-written (ap (λ (o : Outside). o.output) t.0)) (hand.0, hand.1, some) (λ un front it. it)
-  store-played number checked (Err unstored.Failed) t coming = blob_fails (blobs-rose t.0 t.2 (ap (λ (o : Outside). o.blob_faults) t.4))
+  store-played number checked (Err unstored.Failed) t coming = blob_fails (rose-as old.blob_faults t.0 _ t.2 (ap (λ (o : Outside). o.blob_faults) t.4))
   store-played number checked (Err unstored.NoMemory) t coming = wants_room refl (ap (λ (o : Outside). o.output) t.2)
 
   pub deed-played : (deed : Deed) (outcome : Outcome deed) (mine : List Entry) → MayDo manner deed s → Legal settings st mine

@@ -1,7 +1,6 @@
 -- What a course comes to where no blob failed, beside what was played.
 use Rattle.std.proofs.Common.{◌≡◌, ◌⊎◌, ℕ, zero, suc, Bool, true, false, inl, inr, List, [], ◌∷◌, ◌++◌, Option, Some, None, IsTrue, refl, sym, subst, ap, ◌∙◌, append_assoc, append-nil}
 use Rattle.std.specs.Prelude.{IsSome}
-use Rattle.std.proofs.lemmas.Bool.{false≢true}
 use Rattle.std.proofs.lemmas.Option.{none-some}
 use Rattle.outside.specs.Faults.{Rose}
 use Rattle.outside.specs.Told.{behind}
@@ -222,25 +221,25 @@ missed-told (verdict.Unasked of_group) = tt
 missed-told (verdict.Gone of_group) = elim of_group as (λ b. IsTold (said_missed (verdict.Gone b))) [ true ↦ tt | false ↦ tt ]
 missed-told (verdict.First why) = tt
 
--- what a reply makes of what is due: it stays, or something is to be told
-abbrev pub Moves : Option Close → Option Close → Type 0
-Moves before behind = (behind ≡ before) ⊎ ((what : Said) × (behind ≡ Some (speaks what)) × IsTold what)
+-- what a reply makes of what is due: it stays, or this is to be told
+abbrev pub Moves : (Option Close → Option Close) → Type 0
+Moves f = ((due : Option Close) → f due ≡ due) ⊎ ((what : Said) × ((due : Option Close) → f due ≡ Some (speaks what)) × IsTold what)
 
-planned-moves : (left : ℕ) (due : Option Close) → Moves due (due_planned left due)
-planned-moves zero due = inr (NoMemory, refl, tt)
-planned-moves (suc n) due = inl refl
+planned-moves : (left : ℕ) → Moves (due_planned left)
+planned-moves zero = inr (NoMemory, (λ due. refl), tt)
+planned-moves (suc n) = inl (λ due. refl)
 
-pub due-moves : (r : Rounds) (command : Command) (reply : Reply) (due : Option Close) → Moves due (due_after r command reply due)
-due-moves r (look repo path tried) (file lease blob) due = inl refl
-due-moves r (look repo path tried) missed due = inr (said_missed r.so_far, refl, missed-told r.so_far)
-due-moves r (look repo path tried) (fetches plan) due = planned-moves r.left due
-due-moves r (may_put place path) (draft n) due = inl refl
-due-moves r (done lease) reply due = inl refl
-due-moves r (drop_draft n) reply due = inl refl
-due-moves r (unlist repo) reply due = inl refl
-due-moves r collect reply due = inl refl
-due-moves r (land plan outcome) landed due = inl refl
-due-moves r command reply due = inr (said_of reply, refl, said-told reply)
+pub due-moves : (r : Rounds) (command : Command) (reply : Reply) → Moves (due_after r command reply)
+due-moves r (look repo path tried) (file lease blob) = inl (λ due. refl)
+due-moves r (look repo path tried) missed = inr (said_missed r.so_far, (λ due. refl), missed-told r.so_far)
+due-moves r (look repo path tried) (fetches plan) = planned-moves r.left
+due-moves r (may_put place path) (draft n) = inl (λ due. refl)
+due-moves r (done lease) reply = inl (λ due. refl)
+due-moves r (drop_draft n) reply = inl (λ due. refl)
+due-moves r (unlist repo) reply = inl (λ due. refl)
+due-moves r collect reply = inl (λ due. refl)
+due-moves r (land plan outcome) landed = inl (λ due. refl)
+due-moves r command reply = inr (said_of reply, (λ due. refl), said-told reply)
 
 -- once something is due it stays so, and no file is lent
 lent-stays : (command : Command) (reply : Reply) (s : Stand) (due : Close) → MayAsk command s → s.due ≡ Some due → (lent : Option Blob) → lent_after command reply lent ≡ lent
@@ -253,11 +252,9 @@ still-due _ reply s due may is = (cc)
 
 -- where memory is wanted for a command, that is due
 pub memory-due : (command : Command) (s : Stand) → MayAsk command s → IsTrue (takes_memory command) → due_after s.rounds command no_memory s.due ≡ Some (speaks NoMemory)
-memory-due (done lease) s may can = absurd (false≢true can)
-memory-due (drop_draft n) s may can = absurd (false≢true can)
 memory-due (unlist repo) s may can = absurd may
 memory-due collect s may can = absurd may
-memory-due _ s may can = refl
+memory-due _ s may can = (cc)
 
 pub nothing-due : (manner : Manner) (deed : Deed) (s : Stand) → MayDo manner deed s → s.due ≡ None
 nothing-due manner deed s may = may.0

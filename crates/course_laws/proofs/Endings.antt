@@ -44,11 +44,9 @@ Caused due old now = NoneRose old now
 
 -- seen from an earlier world, and to a later one, with the same counts
 from_same : (end : End) (old mid new : Outside) → NoneRose old mid → EndsByCause end mid new → EndsByCause end old new
-from_same stream.Closed old mid new n e = (e.0 ∙ n.0, e.1 ∙ n.1)
-from_same stream.TornRequest old mid new n e = (e.0 ∙ n.0, e.1 ∙ n.1)
-from_same stream.TurnLimit old mid new n e = (e.0 ∙ n.0, e.1 ∙ n.1)
 from_same stream.SourceFault old mid new n e = (subst (λ (k : ℕ). Rose k new.read_faults) n.0 e.0, e.1 ∙ n.1)
 from_same stream.SinkFault old mid new n e = (e.0 ∙ n.0, subst (λ (k : ℕ). Rose k new.write_faults) n.1 e.1)
+from_same _ old mid new n e = (e.0 ∙ n.0, e.1 ∙ n.1)
 
 none-then : (old mid new : Outside) → NoneRose old mid → NoneRose mid new → NoneRose old new
 none-then old mid new c n = (n.0 ∙ c.0, n.1 ∙ c.1)
@@ -81,9 +79,9 @@ reply_caused command reply s old now may c = pick s.due refl c
   where
     pick : (due : Option Close) → s.due ≡ due → Caused due old now → Caused (due_after s.rounds command reply s.due) old now
     pick None none n =
-        elim (due-moves s.rounds command reply s.due) [
-          | inl stays ↦ subst (λ d. Caused d old now) (sym (stays ∙ none)) n
-          | inr told ↦ subst (λ d. Caused d old now) (sym told.1) n
+        elim (due-moves s.rounds command reply) [
+          | inl stays ↦ subst (λ d. Caused d old now) (sym (stays s.due ∙ none)) n
+          | inr told ↦ subst (λ d. Caused d old now) (sym (told.1 s.due)) n
         ]
     pick (Some due) is c = subst (λ d. Caused d old now) (sym (still-due command reply s due may is)) c
 

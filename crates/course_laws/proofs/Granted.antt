@@ -1,5 +1,5 @@
 -- A course that nothing refuses is followed to its answer, whole, unless memory was wanted, if no fault came.
-use Rattle.std.proofs.Common.{◌≡◌, ◌≢◌, ◌⊎◌, inl, inr, ℕ, zero, suc, Bool, false, List, [], ◌∷◌, ◌++◌, Option, Some, None, Result, Ok, Err, arith, refl, sym, subst, ap, ◌∙◌, append-nil}
+use Rattle.std.proofs.Common.{◌≡◌, ◌≢◌, ◌⊎◌, inl, inr, ℕ, zero, suc, Bool, false, List, [], ◌∷◌, ◌++◌, Option, Some, None, Result, Ok, Err, refl, sym, subst, ap, ◌∙◌, append-nil}
 use Rattle.std.specs.Prelude.{if◌then◌else◌}
 use Rattle.std.proofs.lemmas.Bool.{false≢true}
 use Rattle.std.proofs.lemmas.Option.{none-some}
@@ -31,7 +31,7 @@ use Rattle.repo_course.specs.declared.outcomes.Sent.TheVariants as sent
 use Rattle.repo_course.specs.declared.said.Said.{Said}
 use Rattle.repo_course.specs.declared.said.Said.TheVariants as said
 use Rattle.repo_course.specs.Serving.{Begins, Continues, Follows, IsOtherContent, IsWhole, Opens, clean, torn, failed, refused, unread_head, starved as head_starved, served, Outside, Says, SendsAnswer, RequestTurn, store_of, with_store, writes}
-use Rattle.course_laws.specs.AsPlayed.{NoFaults, StoodStill}
+use Rattle.course_laws.specs.AsPlayed.{NoFaults}
 use Rattle.course_laws.specs.Faultless.{done_by}
 use Rattle.course_laws.specs.Duties.{IsReady, Keeps, Stand, at_first, body_length, due_after, duty_of, for_text, lent_after, most_for, rounds_after, stand_after, stand_done, left_by}
 use Rattle.course_laws.specs.Granted.{AllGranted, BodyIsTaken, ComesWhole, Grants, IsAnsweredFor, IsServed, IsSuccess, answered, sent as file_sent, differs, file_cut, starved, Succeeds, answer_by, behind_body, due_by, file_by, invitation, Goes, GoesBy, cut_by}
@@ -40,14 +40,14 @@ use Rattle.course_laws.proofs.Early.{EndsAs, ends-due}
 use Rattle.course_laws.proofs.HeadOnly.{judged-head}
 use Rattle.course_laws.proofs.Kept.{judged-keeps}
 use Rattle.course_laws.proofs.Passes.{ArePass, IsPassCommand, passes-ask}
-use Rattle.course_laws.proofs.PassesPlayed.{as_pass, pass-kept, pass-tells, passes-hold, passes-rose}
+use Rattle.course_laws.proofs.PassesPlayed.{as_pass, pass-was, passes-hold, passes-rose}
 use Rattle.course_laws.proofs.Succeeding.{request-succeeds}
 use Rattle.course_laws.proofs.Sendings.{cut-by-fault, cut-by-other, not-sent, other-found, sent-in-part, sent-nothing, sent-whole}
 use Rattle.course_laws.proofs.ServedActs.{IsPlain, deed-quiet, granted-goes, granted-or-starved, plain-success, read-served, reply-plain, starved-so, whole-said, wrote-served}
 use Rattle.course_laws.specs.Deeds.{due_behind, due_done, to_clean_done}
 use Rattle.repo_course.specs.Deeds.{Sequel, sequel}
 use Rattle.course_laws.proofs.Deeds.{GoesOver, IsSilent, deed-over, goes_over, lacks_room, silent-asks, undue-goes}
-use Rattle.course_laws.proofs.Rising.{Calm, Quiet, no-blob-fault, no-read-fault, no-write-fault, quiet-first, quiet-then}
+use Rattle.course_laws.proofs.Rising.{Quiet, no-blob-fault, no-read-fault, no-write-fault, quiet-first, quiet-then, calm-of}
 
 -- a deed that asks nothing leaves the entries to what follows it
 unasked : (tells : Type 0) (c : Course) (entries mine later : List Entry) (old new : Outside) (end : Option End) → entries ≡ mine ++ later → mine ≡ []
@@ -254,8 +254,8 @@ module _ (settings : Settings) (tells : Type 0) (manner : Manner) where
       let mine-are : mine ++ later ≡ mine = ap (λ (es : List Entry). mine ++ es) f.0 ∙ append-nil mine in
       let due : Some (of_pass (Ok (done_by (mine ++ later)))) ≡ Some (speaks what) =
       ap (λ (es : List Entry). Some (of_pass (as_pass (done_by es)))) mine-are
-      ∙ ap (λ (p : Pass). Some (of_pass p)) (sym (pass-tells settings repos mine (store_of old) kept did t)) in
-      let still = pass-kept repos mine (store_of old) kept did t in
+      ∙ ap (λ (p : Pass). Some (of_pass p)) (sym ((pass-was settings repos mine (store_of old) kept did t).0)) in
+      let still = (pass-was settings repos mine (store_of old) kept did t).1 in
       elim (whole-said (answer_of what manner) (memory_answer manner.head_only) (end_of manner) mid new end more f.1) [
         | inl w ↦ answered what kept.shelf old.remote due tt
             (w.0 ∙ (λ i. writes (shown (answer_of what manner)) (record old { input = input-is i; shelf = kept.shelf; blob_faults = still i }))) w.1
@@ -289,9 +289,6 @@ module _ (settings : Settings) (tells : Type 0) (manner : Manner) where
   intent-served expects intent k su entries all old new end input input-is taken q f =
       follows-so tells manner (for_text intent) (course_for manner expects intent) (most_for intent) (at_first expects intent) false k su
       (tt, refl) entries all old new end input input-is taken q f
-
-calm-of : (a b : ℕ) → StoodStill a b → Calm a b
-calm-of a b stood = (let h = stood.0 in omega arith, let h = stood.0 in let k = stood.1 in omega arith)
 
 abbrev at_start : Judged → Stand
 at_start request = at_first request.expects request.intent

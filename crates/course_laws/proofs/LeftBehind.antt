@@ -10,7 +10,7 @@ use Rattle.repo_routes.specs.Judge.{judge}
 use Rattle.repo_routes.specs.declared.judging.Refused.{Refused}
 use Rattle.repo_course.specs.Course.{Close, Course, asks, does, says, stops}
 use Rattle.repo_course.specs.declared.outcomes.End.{End}
-use Rattle.repo_course.specs.Serving.{Follows, Opens, clean, torn, failed, refused, unread_head, starved, served, Outside, ServesStream, RequestTurn}
+use Rattle.repo_course.specs.Serving.{Follows, Opens, served, Outside, ServesStream, RequestTurn}
 use Rattle.course_laws.specs.Duties.{HoldsNothing, Keeps, MayAsk, Stand, duty_of, left_by, stand_after, stand_done}
 use Rattle.repo_course.specs.declared.manner.Manner.{Manner}
 use Rattle.course_laws.specs.LeftBehind.{IsDrawn, LeavesNothing, NumbersAreBelow}
@@ -18,6 +18,7 @@ use Rattle.course_laws.proofs.Kept.{duty_at, opens-keeps}
 use Rattle.course_laws.proofs.Passes.{deed-asks, entries-hold}
 use Rattle.course_laws.proofs.PassesPlayed.{entries-find}
 use Rattle.course_laws.proofs.Yards.{Holding, OwnDraft, OwnLease, step}
+use Rattle.course_laws.proofs.Alls.{all-joined}
 
 stays : (y : Yard) → LeavesNothing y y
 stays y = record { drafts = refl; leases = refl; next_draft = omega arith; next_lease = omega arith }
@@ -52,19 +53,16 @@ pub record Leaves (settings : Settings) (before : Yard) (entries : List Entry) (
   pub nothing : IsDrawn before → LeavesNothing before (end_of settings st entries).yard
   pub found : AllByRecursion (λ (e : Entry). e.reply ≢ no_draft) entries
 
+-- a history in two parts
+pub end_append : (settings : Settings) (x : State) (xs ys : List Entry) → end_of settings x (xs ++ ys) ≡ end_of settings (end_of settings x xs) ys
+end_append settings x [] ys = refl
+end_append settings x (e ∷ es) ys = end_append settings (after settings x e) es ys
+
+pub legal_cut : (settings : Settings) (x : State) (xs ys : List Entry) → Legal settings x (xs ++ ys) → Legal settings x xs × Legal settings (end_of settings x xs) ys
+legal_cut settings x [] ys legal = (tt, legal)
+legal_cut settings x (e ∷ es) ys legal = let rest = legal_cut settings (after settings x e) es ys legal.1 in ((legal.0, rest.0), rest.1)
+
 module _ (tells : Type 0) (settings : Settings) where
-  pub end_append : (x : State) (xs ys : List Entry) → end_of settings x (xs ++ ys) ≡ end_of settings (end_of settings x xs) ys
-  end_append x [] ys = refl
-  end_append x (e ∷ es) ys = end_append (after settings x e) es ys
-
-  pub legal_cut : (x : State) (xs ys : List Entry) → Legal settings x (xs ++ ys) → Legal settings x xs × Legal settings (end_of settings x xs) ys
-  legal_cut x [] ys legal = (tt, legal)
-  legal_cut x (e ∷ es) ys legal = let rest = legal_cut (after settings x e) es ys legal.1 in ((legal.0, rest.0), rest.1)
-
-  all_append : (P : Entry → Type 0) (xs ys : List Entry) → AllByRecursion P xs → AllByRecursion P ys → AllByRecursion P (xs ++ ys)
-  all_append P [] ys all more = more
-  all_append P (x ∷ xs) ys all more = (all.0, all_append P xs ys all.1 more)
-
   module _ (before : Yard) (by_text : List ℕ → Option Close) (manner : Manner) where
     ended : (s : Stand) (entries : List Entry) (st : State) → HoldsNothing s → Holding before s.draft s.lease st.yard → entries ≡ [] → Leaves settings before entries st
     ended s entries st none h is =
@@ -87,14 +85,14 @@ module _ (tells : Type 0) (settings : Settings) where
         let rest = follows_leaves (next e.reply) n (stand_after command e.reply s) (k.1 e.reply) entries (after settings st e) legal.1 held old new end f.1 in
         record { nothing = rest.nothing; found = (now.1, rest.found) }
     follows_leaves (does deed next) n s k entries st legal h old new end f =
-        let cut = legal_cut st f.1 f.2 (subst (λ (es : List Entry). Legal settings st es) f.4 legal) in
+        let cut = legal_cut settings st f.1 f.2 (subst (λ (es : List Entry). Legal settings st es) f.4 legal) in
         let asked = deed-asks tells deed f.0 f.1 old f.3 f.5 in
         let held = entries-hold before s.draft s.lease settings f.1 st asked h in
         let rest = follows_leaves (next f.0) (left_by deed n) (stand_done by_text deed f.0 s) (k.2 f.0) f.2 (end_of settings st f.1) cut.1 held f.3 new end f.6 in
         subst (λ (es : List Entry). Leaves settings before es st) (sym f.4)
         (record {
-          nothing = λ drawn. subst (λ (x : State). LeavesNothing before x.yard) (sym (end_append st f.1 f.2)) (rest.nothing drawn);
-          found = all_append (λ (e : Entry). e.reply ≢ no_draft) f.1 f.2 (entries-find settings f.1 st cut.0 asked) rest.found;
+          nothing = λ drawn. subst (λ (x : State). LeavesNothing before x.yard) (sym (end_append settings st f.1 f.2)) (rest.nothing drawn);
+          found = all-joined (λ (e : Entry). e.reply ≢ no_draft) f.1 f.2 (entries-find settings f.1 st cut.0 asked) rest.found;
         })
     follows_leaves (says said own) n s k entries st legal h old new end f = ended s entries st k.0 h f.0
     follows_leaves (stops next) n s k entries st legal h old new end f = ended s entries st k.0 h f.0
@@ -111,13 +109,8 @@ module _ (tells : Type 0) (settings : Settings) where
       judged-holds (Err cause) = nothing-held st.yard
 
       holds : {c : Course} {mid : Outside} (o : Opens settings last old mid c) → Holding st.yard (duty_at o).stand.draft (duty_at o).stand.lease st.yard
-      holds (clean begins still is) = nothing-held st.yard
-      holds (torn begins still is) = nothing-held st.yard
-      holds (failed faults rose still is) = nothing-held st.yard
-      holds (refused fault begins still is) = nothing-held st.yard
-      holds (unread_head begins still is) = nothing-held st.yard
-      holds (starved head rest begins uses is) = nothing-held st.yard
       holds (served head rest begins uses is) = judged-holds (judge settings head)
+      holds _ = nothing-held st.yard
 
   pub serves_leaves : (n : ℕ) (entries : List Entry) (st : State) → Legal settings st entries → (old new : Outside) (end : End)
       → ServesStream settings tells n entries old new end → Leaves settings st.yard entries st
@@ -127,14 +120,14 @@ module _ (tells : Type 0) (settings : Settings) where
   serves_leaves (suc left) entries st legal old new end (inl turn) = turn_leaves (left == 0) entries st legal old new (Some end) turn
   serves_leaves (suc left) entries st legal old new end (inr t) =
       let all = subst (λ (es : List Entry). Legal settings st es) t.3 legal in
-      let cut = legal_cut st t.0 t.1 all in
+      let cut = legal_cut settings st t.0 t.1 all in
       let mid = end_of settings st t.0 in
       let first = turn_leaves (left == 0) t.0 st cut.0 old t.2 None t.4 in
       let rest = serves_leaves left t.1 mid cut.1 t.2 new end t.5 in
       subst (λ (es : List Entry). Leaves settings st.yard es st) (sym t.3)
       (record {
         nothing = λ drawn. let left_so = first.nothing drawn in
-            subst (λ (x : State). LeavesNothing st.yard x.yard) (sym (end_append st t.0 t.1))
+            subst (λ (x : State). LeavesNothing st.yard x.yard) (sym (end_append settings st t.0 t.1))
             (both_left st.yard mid.yard (end_of settings mid t.1).yard left_so (rest.nothing (still_drawn st.yard mid.yard left_so drawn)));
-        found = all_append (λ (e : Entry). e.reply ≢ no_draft) t.0 t.1 first.found rest.found;
+        found = all-joined (λ (e : Entry). e.reply ≢ no_draft) t.0 t.1 first.found rest.found;
       })

@@ -4,6 +4,7 @@ pub mod Bodies
 pub mod Endings
 pub mod Yards
 pub mod Passes
+pub mod Each
 pub mod PassesPlayed
 pub mod LeftBehind
 pub mod Rounds
@@ -32,5 +33,6 @@ pub mod Succeeding
 pub mod ServedActs
 pub mod Granted
 pub mod Landed
+pub mod PutBodies
 pub mod Origins
 pub mod Verdicts

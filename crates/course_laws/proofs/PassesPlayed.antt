@@ -3,7 +3,7 @@ use Rattle.std.proofs.Common.{◌≡◌, ◌≢◌, ◌⊎◌, inl, inr, ℕ, �
 use Rattle.std.specs.Prelude.{IsSome, min, sum, sum_by}
 use Rattle.std.specs.List.{AllByRecursion}
 use Rattle.std.proofs.lemmas.List.{map-append}
-use Rattle.std.proofs.lemmas.List.Sums.{sum_by-append}
+use Rattle.std.proofs.lemmas.List.Sums.{sum_by-append, sum_by-cons}
 use Rattle.outside.specs.Faults.{Rose, last_count}
 use Rattle.repo_model.specs.Command.{Command, unlist, collect}
 use Rattle.repo_model.specs.History.{Entry, IsReply, Legal, after, due, wants_memory, failed, end as end_of}
@@ -120,32 +120,27 @@ passes-hold repos entries old new result (not_collected first last count fault p
     let same : fault ≡ clean.StoreFault = (cc) in
     no-cause fault last.reply c.1.1
     (all-last (λ (e : Entry). e.reply ≢ store_fault) first last (subst (λ (es : List Entry). AllByRecursion (λ (e : Entry). e.reply ≢ store_fault) es) parts none)) same
-passes-hold repos entries old new result (removing first last count blobs (Ok n) parts u c r is) none ends = absurd (cc)
 passes-hold repos entries old new result (removing first last count blobs (Err clean.StoreFault) parts u c r is) none ends = r.4
-passes-hold repos entries old new result (removing first last count blobs (Err clean.BlobFault) parts u c r is) none ends = absurd (cc)
-passes-hold repos entries old new result (removing first last count blobs (Err clean.NoMemory) parts u c r is) none ends = absurd (cc)
+passes-hold repos entries old new result (removing first last count blobs removed parts u c r is) none ends = absurd (cc)
 
 -- sums over entries are those over their replies
-
-sum-first : {X : Type 0} (f : X → ℕ) (x : X) (xs : List X) → sum_by f (x ∷ xs) ≡ f x + sum_by f xs
-sum-first f x xs = let all : sum_by f (x ∷ xs) ≡ sum_by f (x ∷ []) + sum_by f xs = sum_by-append f (x ∷ []) xs in omega (arith, all)
 
 sum-under : {X Y : Type 0} (f : Y → ℕ) (g : X → Y) (xs : List X) → sum_by (λ x. f (g x)) xs ≡ sum_by f (map g xs)
 sum-under f g [] = refl
 sum-under f g (x ∷ xs) =
-    let here = sum-first (λ y. f (g y)) x xs in
-    let there = sum-first f (g x) (map g xs) in
+    let here = sum_by-cons (λ y. f (g y)) x xs in
+    let there = sum_by-cons f (g x) (map g xs) in
     let rest = sum-under f g xs in
     omega (arith, here, there, rest)
 
 sum-none : {X : Type 0} (f : X → ℕ) → ((x : X) → f x ≡ 0) → (xs : List X) → sum_by f xs ≡ 0
 sum-none f none [] = refl
-sum-none f none (x ∷ xs) = let here = sum-first f x xs in let zero-here = none x in let rest = sum-none f none xs in omega (arith, here, zero-here, rest)
+sum-none f none (x ∷ xs) = let here = sum_by-cons f x xs in let zero-here = none x in let rest = sum-none f none xs in omega (arith, here, zero-here, rest)
 
 sum-behind : (f : Reply → ℕ) (counts : List ℕ) (last : Reply) → sum_by f (map unlisted counts ++ last ∷ []) ≡ sum_by (λ n. f (unlisted n)) counts + f last
 sum-behind f counts last =
     let all = sum_by-append f (map unlisted counts) (last ∷ []) in
-    let one = sum-first f last [] in
+    let one = sum_by-cons f last [] in
     let same = sum-under f unlisted counts in
     omega (arith, all, one, same)
 
@@ -173,70 +168,50 @@ module _ (settings : Settings) (repos : List (List ℕ)) (entries first : List E
       → entries ≡ pass_entries settings s repos
   pass-is-played s legal calm told = entries-due settings entries s legal calm told some-memory ∙ ap (due_entries settings s) pass-commands
 
+  summed : (f : Reply → ℕ) → sum_by (λ (e : Entry). f e.reply) entries ≡ sum_by (λ n. f (unlisted n)) u.0 + f (collected c.1.0 blobs)
+  summed f = sum-under f (λ (e : Entry). e.reply) entries ∙ ap (sum_by f) pass-replies ∙ sum-behind f u.0 (collected c.1.0 blobs)
+
   pass-done : cleaned count (Ok (length blobs)) ≡ Ok (done_by entries)
   pass-done =
-      let unlisted-sum : sum_by (λ (e : Entry). unlisted_by e.reply) entries ≡ sum u.0 =
-      (let over = sum-under unlisted_by (λ (e : Entry). e.reply) entries in
-      let at = ap (sum_by unlisted_by) pass-replies in
-      let all = sum-behind unlisted_by u.0 (collected c.1.0 blobs) in
-      omega (arith, over, at, all)) in
+      let unlisted-sum : sum_by (λ (e : Entry). unlisted_by e.reply) entries ≡ sum u.0 = omega (arith, summed unlisted_by) in
       let garbage-sum : sum_by (λ (e : Entry). garbage_by e.reply) entries ≡ length blobs =
-      (let over = sum-under garbage_by (λ (e : Entry). e.reply) entries in
-      let at = ap (sum_by garbage_by) pass-replies in
-      let all = sum-behind garbage_by u.0 (collected c.1.0 blobs) in
-      let none = sum-none (λ n. garbage_by (unlisted n)) (λ n. refl) u.0 in
-      omega (arith, over, at, all, none)) in
+      omega (arith, summed garbage_by, sum-none (λ n. garbage_by (unlisted n)) (λ n. refl) u.0) in
       let counted : count ≡ min (sum_by (λ (e : Entry). unlisted_by e.reply) entries) last_count = u.3 ∙ ap (λ n. min n last_count) (sym unlisted-sum) in
       ap Ok (λ i. record { unlisted = counted i; removed = sym garbage-sum i })
 
 abbrev pub as_pass : Cleaned → Pass
 as_pass done = Ok done
 
--- one that is done is the one that is played
+-- one that is done tells what its entries did, no blob failed, and where nothing else did either it is the one that is played
+pub pass-was : (settings : Settings) (repos : List (List ℕ)) (entries : List Entry) (old new : Store) (done : Cleaned) → Passes repos entries old new (Ok done)
+    → (as_pass done ≡ as_pass (done_by entries)) × (new.faults ≡ old.faults)
+    × ((s : State) → Legal settings s entries → Calm s.faults (end_of settings s entries).faults → IsSome s.clock → entries ≡ pass_entries settings s repos)
+pass-was settings repos entries old new done (not_unlisted fault u still is) = absurd (cc)
+pass-was settings repos entries old new done (not_collected first last count fault parts u c still is) = absurd (cc)
+pass-was settings repos entries old new done (removing first last count blobs (Ok n) parts u c r is) = (
+  is ∙ ap (λ m. cleaned count (Ok m)) r.0 ∙ pass-done settings repos entries first last count blobs parts u c,
+  ap (λ (s : Store). s.faults) r.1,
+  pass-is-played settings repos entries first last count blobs parts u c,
+)
+pass-was settings repos entries old new done (removing first last count blobs (Err fault) parts u c r is) = absurd (cc)
+
 pub passes-played : (settings : Settings) (repos : List (List ℕ)) (entries : List Entry) (old new : Store) (done : Cleaned) (s : State) → Legal settings s entries
     → Calm s.faults (end_of settings s entries).faults → IsSome s.clock → Passes repos entries old new (Ok done)
     → (entries ≡ pass_entries settings s repos) × (as_pass done ≡ as_pass (done_by (pass_entries settings s repos)))
-passes-played settings repos entries old new done s legal calm told (not_unlisted fault u still is) = absurd (cc)
-passes-played settings repos entries old new done s legal calm told (not_collected first last count fault parts u c still is) = absurd (cc)
-passes-played settings repos entries old new done s legal calm told (removing first last count blobs (Ok n) parts u c r is) =
-    let same = pass-is-played settings repos entries first last count blobs parts u c s legal calm told in (
-      same,
-      is ∙ ap (λ m. cleaned count (Ok m)) r.0 ∙ pass-done settings repos entries first last count blobs parts u c
-          ∙ ap (λ (es : List Entry). as_pass (done_by es)) same,
-    )
-passes-played settings repos entries old new done s legal calm told (removing first last count blobs (Err fault) parts u c r is) = absurd (cc)
+passes-played settings repos entries old new done s legal calm told t =
+    let was = pass-was settings repos entries old new done t in
+    let same = was.2 s legal calm told in
+    (same, was.0 ∙ ap (λ (es : List Entry). as_pass (done_by es)) same)
 
 -- one that ends by a removal
+no-removal : (reply : Reply) → clean.BlobFault ≡ cause_of reply → ⊥
+no-removal store_fault same = cc
+no-removal _ same = cc
+
 pub passes-rose : (repos : List (List ℕ)) (entries : List Entry) (old new : Store) → Passes repos entries old new (Err clean.BlobFault) → Rose old.faults new.faults
-passes-rose repos entries old new (not_unlisted fault u still is) =
-    let same : fault ≡ clean.BlobFault = (cc) in absurd (never u.3 (sym same ∙ u.7.1))
-  where
-    never : (reply : Reply) → clean.BlobFault ≡ cause_of reply → ⊥
-    never store_fault same = cc
-    never _ same = cc
+passes-rose repos entries old new (not_unlisted fault u still is) = let same : clean.BlobFault ≡ fault = (cc) in absurd (no-removal u.3 (same ∙ u.7.1))
 passes-rose repos entries old new (not_collected first last count fault parts u c still is) =
-    let same : fault ≡ clean.BlobFault = (cc) in absurd (never last.reply (sym same ∙ c.1.1))
-  where
-    never : (reply : Reply) → clean.BlobFault ≡ cause_of reply → ⊥
-    never store_fault same = cc
-    never _ same = cc
-passes-rose repos entries old new (removing first last count blobs (Ok n) parts u c r is) = absurd (cc)
-passes-rose repos entries old new (removing first last count blobs (Err clean.StoreFault) parts u c r is) = absurd r.4
+    let same : clean.BlobFault ≡ fault = (cc) in absurd (no-removal last.reply (same ∙ c.1.1))
 passes-rose repos entries old new (removing first last count blobs (Err clean.BlobFault) parts u c r is) =
     subst (λ (s : Store). Rose old.faults s.faults) (sym r.4.2) r.4.1
-passes-rose repos entries old new (removing first last count blobs (Err clean.NoMemory) parts u c r is) = absurd (cc)
-
--- one that is done tells what its entries did, and no blob failed
-pub pass-tells : (settings : Settings) (repos : List (List ℕ)) (entries : List Entry) (old new : Store) (done : Cleaned) → Passes repos entries old new (Ok done)
-    → as_pass done ≡ as_pass (done_by entries)
-pass-tells settings repos entries old new done (not_unlisted fault u still is) = absurd (cc)
-pass-tells settings repos entries old new done (not_collected first last count fault parts u c still is) = absurd (cc)
-pass-tells settings repos entries old new done (removing first last count blobs (Ok n) parts u c r is) =
-    is ∙ ap (λ m. cleaned count (Ok m)) r.0 ∙ pass-done settings repos entries first last count blobs parts u c
-pass-tells settings repos entries old new done (removing first last count blobs (Err fault) parts u c r is) = absurd (cc)
-
-pub pass-kept : (repos : List (List ℕ)) (entries : List Entry) (old new : Store) (done : Cleaned) → Passes repos entries old new (Ok done) → new.faults ≡ old.faults
-pass-kept repos entries old new done (not_unlisted fault u still is) = absurd (cc)
-pass-kept repos entries old new done (not_collected first last count fault parts u c still is) = absurd (cc)
-pass-kept repos entries old new done (removing first last count blobs (Ok n) parts u c r is) = ap (λ (s : Store). s.faults) r.1
-pass-kept repos entries old new done (removing first last count blobs (Err fault) parts u c r is) = absurd (cc)
+passes-rose repos entries old new (removing first last count blobs removed parts u c r is) = absurd (cc)

@@ -12,13 +12,12 @@ use Rattle.remote_fetch.specs.declared.contents.Content.TheVariants as content
 use Rattle.remote_fetch.specs.declared.fetching.Checked.{Checked}
 use Rattle.repo_model.specs.Command.{look}
 use Rattle.repo_model.specs.Data.{Place, repository, session}
-use Rattle.repo_model.specs.Fetched.{Landing, got_file, got_doc}
 use Rattle.repo_model.specs.Reply.{Reply, file, missed, draft, fetches, landed}
 use Rattle.repo_model.specs.Settings.{Settings}
-use Rattle.repo_routes.specs.Intent.{Intent, Judged, reads as reads_path, puts_file, puts_side, puts_document, asks as asks_one, cleans as cleans_all, opens, commits, aborts}
+use Rattle.repo_routes.specs.Intent.{Intent, Judged, reads as reads_path, puts_file, puts_side, puts_document, cleans as cleans_all}
 use Rattle.repo_routes.specs.Judge.{judge}
 use Rattle.repo_routes.specs.declared.judging.Refused.{Refused}
-use Rattle.repo_course.specs.Course.{Body, Close, Course, Fetch, Kept, Outcome, Stored, speaks, rests, answers, asks, says, stops, closes, does, take_body, read_body, fetch, after_continue, after_fetch, after_land, after_store, fetch_fault, fetched, gives_any_up, is_group, lands, looks, rounds_of, said_missed, stores, with_fault, without_memory, after_document, after_look, after_may_put, after_put, after_side, after_take, behind_fault, compares, course_for, course_of, cut_off, gives_up, invites, leaves_draft, manner_for, notes, of_fault, of_pass, of_sent, of_store, said_of, tells, with_unread}
+use Rattle.repo_course.specs.Course.{Body, Close, Course, Fetch, Kept, Outcome, Stored, speaks, rests, answers, asks, says, stops, closes, does, take_body, read_body, fetch, after_continue, after_fetch, after_land, after_store, fetch_fault, fetched, gives_any_up, is_group, looks, rounds_of, said_missed, stores, with_fault, without_memory, after_document, after_look, after_may_put, after_put, after_side, after_take, behind_fault, compares, course_for, course_of, cut_off, gives_up, invites, leaves_draft, manner_for, notes, of_fault, of_pass, of_sent, of_store, said_of, tells, with_unread}
 use Rattle.repo_course.specs.declared.fetched.FetchFault.{FetchFault}
 use Rattle.repo_course.specs.declared.fetched.Verdict.{Verdict}
 use Rattle.repo_course.specs.declared.fetched.Verdict.TheVariants as verdict
@@ -72,31 +71,21 @@ module _ (manner : Manner) where
   unfetched-plans plan (Some n) = (refl, λ reply. (refl, refl))
 
   module _ (plan : Plan) where
-    land-plans : (again : Course) → AsPlanned [] again → (outcome : Landing) → AsPlanned [] (lands manner plan again outcome)
-    land-plans again so outcome = replies where
-      replies : (reply : Reply) → AsPlanned [] (after_land manner plan.draft again reply)
-      replies landed = so
-      replies reply = any-up-plans plan.draft (tells manner reply) (tells-plans manner reply)
+    land-plans : (again : Course) → AsPlanned [] again → (reply : Reply) → AsPlanned [] (after_land manner plan.draft again reply)
+    land-plans again so landed = so
+    land-plans again so reply = any-up-plans plan.draft (tells manner reply) (tells-plans manner reply)
 
     stores-plans : (again : Course) → AsPlanned [] again → (checked : Checked) (under : Option ℕ) → AsPlanned [] (stores manner plan again checked under)
     stores-plans again so checked None = tt
     stores-plans again so checked (Some n) = (tt, tell) where
       tell : (kept : Kept) → AsPlanned [] (after_store manner plan again kept)
-      tell (Ok blob) = land-plans again so (came.Got (got_file blob))
+      tell (Ok blob) = land-plans again so
       tell (Err why) = any-up-plans plan.draft (closes manner (of_store why)) (closes-plans manner (of_store why))
 
     module _ (again : Option FetchFault → Course) (so : (why : Option FetchFault) → AsPlanned [] (again why)) where
       came-plans : (outcome : Came Content) → AsPlanned [] (fetched manner plan (again (fetch_fault outcome)) outcome)
       came-plans (came.Got (content.File checked)) = stores-plans (again None) (so None) checked plan.draft
-      came-plans (came.Got (content.Doc document)) = land-plans (again None) (so None) (came.Got (got_doc document))
-      came-plans came.Gone = land-plans (again None) (so None) came.Gone
-      came-plans (came.Refused code) = land-plans (again _) (so _) (came.Refused code)
-      came-plans came.NoChecksum = land-plans (again _) (so _) came.NoChecksum
-      came-plans (came.Differs said found) = land-plans (again _) (so _) (came.Differs said found)
-      came-plans came.TooLarge = land-plans (again _) (so _) came.TooLarge
-      came-plans (came.BadAnswer at) = land-plans (again _) (so _) (came.BadAnswer at)
-      came-plans (came.BadDocument at) = land-plans (again _) (so _) (came.BadDocument at)
-      came-plans came.Fault = land-plans (again _) (so _) came.Fault
+      came-plans _ = land-plans (again _) (so _)
 
       fetch-plans : (outcome : Fetch) → AsPlanned [] (after_fetch manner plan again outcome)
       fetch-plans None = any-up-plans plan.draft (without_memory manner) tt
@@ -161,10 +150,7 @@ module _ (manner : Manner) where
     tell (Ok bytes) = notes-plan place path (reading bytes)
     tell (Err fault) = closes-plans manner (of_fault fault)
   for-plans expects (cleans_all repos) = (tt, λ pass. closes-plans manner (of_pass pass))
-  for-plans expects (asks_one question) = tells-plans manner
-  for-plans expects (opens repo) = tells-plans manner
-  for-plans expects (commits n) = tells-plans manner
-  for-plans expects (aborts n) = tells-plans manner
+  for-plans expects _ = tells-plans manner
 
 judged-plans : (judged : Result Judged Refused) (last : Bool) → AsPlanned [] (course_of judged last)
 judged-plans (Ok request) last = for-plans (manner_for request last) request.expects request.intent

@@ -1,11 +1,10 @@
 -- A course is followed as it is played, up to where memory is wanted or the source or the sink fails, if nothing else fails.
-use Rattle.std.proofs.Common.{◌≡◌, ℕ, zero, suc, arith, inl, inr, List, [], ◌∷◌, ◌++◌, Option, Some, None, IsTrue, refl, sym, subst, ap, ◌∙◌, append_assoc}
-use Rattle.std.specs.Prelude.{IsSome}
+use Rattle.std.proofs.Common.{◌≡◌, ℕ, zero, suc, arith, inl, inr, List, [], ◌∷◌, ◌++◌, Option, Some, IsTrue, refl, sym, subst, ap, ◌∙◌, append_assoc}
+use Rattle.std.specs.Prelude.{IsSome, IfSome}
 use Rattle.fetch_plan.specs.declared.Outcome.TheVariants as came
 use Rattle.remote_fetch.specs.declared.contents.Content.TheVariants as content
 use Rattle.repo_model.specs.Command.{Command, look, put, stage, land}
 use Rattle.repo_model.specs.Data.{Blob}
-use Rattle.repo_model.specs.Fetched.{Landing, got_file, got_doc}
 use Rattle.repo_model.specs.History.{Entry, Legal, after, due, wants_memory, failed, end as end_of}
 use Rattle.repo_model.specs.Reply.{Reply, file, no_memory, takes_memory}
 use Rattle.repo_model.specs.Settings.{Settings}
@@ -37,26 +36,14 @@ reply-in-hand : (c : Command) (reply : Reply) (s : Stand) → ReplyTold reply �
 reply-in-hand (look repo path tried) (file lease blob) s told hand = (hand.0, told, hand.2)
 reply-in-hand _ _ s told hand = hand
 
-landing-told : (came : Fetch) (kept : Option Blob) (outcome : Landing) → landing_by came kept ≡ Some outcome → IsBlobTold kept → LandingTold outcome
-landing-told None kept outcome is told = absurd (cc)
-landing-told (Some (came.Got (content.File checked))) None outcome is told = absurd (cc)
-landing-told (Some (came.Got (content.File checked))) (Some blob) outcome is told =
-    let same : came.Got (got_file blob) ≡ outcome = cc in subst LandingTold same told
-landing-told (Some (came.Got (content.Doc document))) kept outcome is told =
-    let same : came.Got (got_doc document) ≡ outcome = cc in subst LandingTold same tt
-landing-told (Some came.Gone) kept outcome is told = let same : came.Gone ≡ outcome = cc in subst LandingTold same tt
-landing-told (Some (came.Refused code)) kept outcome is told = let same : came.Refused code ≡ outcome = cc in subst LandingTold same tt
-landing-told (Some came.NoChecksum) kept outcome is told = let same : came.NoChecksum ≡ outcome = cc in subst LandingTold same tt
-landing-told (Some (came.Differs said found)) kept outcome is told = let same : came.Differs said found ≡ outcome = cc in subst LandingTold same tt
-landing-told (Some came.TooLarge) kept outcome is told = let same : came.TooLarge ≡ outcome = cc in subst LandingTold same tt
-landing-told (Some (came.BadAnswer at)) kept outcome is told = let same : came.BadAnswer at ≡ outcome = cc in subst LandingTold same tt
-landing-told (Some (came.BadDocument at)) kept outcome is told = let same : came.BadDocument at ≡ outcome = cc in subst LandingTold same tt
-landing-told (Some came.Fault) kept outcome is told = let same : came.Fault ≡ outcome = cc in subst LandingTold same tt
+landing-told : (came : Fetch) (kept : Option Blob) → IsBlobTold kept → IfSome (landing_by came kept) LandingTold
+landing-told (Some (came.Got (content.File checked))) (Some blob) told = told
+landing-told _ _ told = tt
 
 command-in-hand : (c : Command) (s : Stand) → MayAsk c s → InHandTold s → CommandTold c
 command-in-hand (put repo path n blob) s may hand = subst (λ b. IsBlobTold b) may.2 hand.0
 command-in-hand (stage at path n blob) s may hand = subst (λ b. IsBlobTold b) may.2 hand.0
-command-in-hand (land plan outcome) s may hand = landing-told s.came s.kept outcome may.3 hand.2
+command-in-hand (land plan outcome) s may hand = subst (λ o. IfSome o LandingTold) may.3 (landing-told s.came s.kept hand.2)
 command-in-hand _ s may hand = tt
 
 unsent-by : (by_text : List ℕ → Option Close) (next : Sequel) (due : Option Close) → IsUnsent (due_behind by_text next due) → IsUnsentBy next
@@ -149,9 +136,9 @@ module _ (settings : Settings) (tells : Type 0) (witness : tells) (by_text : Lis
   deed-play : (deed : Deed) (next : Outcome deed → Course) → ((outcome : Outcome deed) → Plays settings tells by_text manner (next outcome))
       → Plays settings tells by_text manner (does deed next)
   deed-play deed next ih n s k hand entries st legal calm old new end input before coming spare ready quiet f =
-      let cut = legal_cut tells settings st f.1 f.2 (subst (λ (es : List Entry). Legal settings st es) f.4 legal) in
+      let cut = legal_cut settings st f.1 f.2 (subst (λ (es : List Entry). Legal settings st es) f.4 legal) in
       let mid = end_of settings st f.1 in
-      let ends : end_of settings st entries ≡ end_of settings mid f.2 = ap (λ (es : List Entry). end_of settings st es) f.4 ∙ end_append tells settings st f.1 f.2 in
+      let ends : end_of settings st entries ≡ end_of settings mid f.2 = ap (λ (es : List Entry). end_of settings st es) f.4 ∙ end_append settings st f.1 f.2 in
       let all = subst (λ (x : State). Calm st.faults x.faults) ends calm in
       let up = faults-grow settings f.1 st cut.0 in
       let more = faults-grow settings f.2 mid cut.1 in

@@ -37,7 +37,7 @@ use Rattle.course_laws.proofs.PlayedCourse.{course-play}
 use Rattle.course_laws.proofs.Told.{faults-grow}
 use Rattle.course_laws.proofs.Unsent.{MayStarve}
 use Rattle.course_laws.proofs.Deeds.{InHandTold}
-use Rattle.course_laws.proofs.Rising.{Calm, Grew, calm-first, calm-then, not-risen, rose-before}
+use Rattle.course_laws.proofs.Rising.{Calm, Grew, calm-first, calm-then, not-risen, rose-before, calm-of}
 
 -- an answer to this is its head alone only to HEAD
 abbrev MayBeAlone : Front → Bool → Type 0
@@ -54,10 +54,8 @@ at-once-so : (f : Front) → AtTurn f false []
 at-once-so f = (λ is. absurd (false≢true is), inl refl)
 
 asks-head : (f : Front) (head : Head) (rest : Option (List ℕ)) → IsWhole head rest f → is_head head ≡ true → AsksHead f
-asks-head Clean head rest comes is = absurd comes
-asks-head Cut head rest comes is = absurd comes
-asks-head (Bad fault) head rest comes is = absurd comes
 asks-head (Whole what behind) head rest comes is = ap is_head comes.0 ∙ is
+asks-head _ head rest comes is = absurd comes
 
 module _ (settings : Settings) (left : ℕ) (scene : Scene) where
   -- the first request, and a stream behind it
@@ -206,11 +204,9 @@ module _ (settings : Settings) (tells : Type 0) (witness : tells) where
         → (old new : Outside) (st st' : State) (end : Option End) (input before : List ℕ)
         → ((behind : List ℕ) → rest ≡ Some behind → Plays-so f (course_of (judge settings head) last) behind before old new st st' end)
         → Turned last f st input before old new st' end
-    served-turn last Clean head rest comes old new st st' end input before done = absurd comes
-    served-turn last Cut head rest comes old new st st' end input before done = absurd comes
-    served-turn last (Bad fault) head rest comes old new st st' end input before done = absurd comes
     served-turn last (Whole what behind) head rest comes old new st st' end input before done =
         subst (λ h. Plays-so (Whole what behind) (course_of (judge settings h) last) behind before old new st st' end) (sym comes.0) (done behind comes.1)
+    served-turn last _ head rest comes old new st st' end input before done = absurd comes
 
     turn-play : (last : Bool) (entries : List Entry) (st : State) → Legal settings st entries → Calm st.faults (end_of settings st entries).faults
         → (old new : Outside) (end : Option End) (input before : List ℕ) → Ready old st input before → Calm old.blob_faults new.blob_faults
@@ -323,9 +319,9 @@ module _ (settings : Settings) (tells : Type 0) (witness : tells) where
       (turn-play coming spare (left == 0) entries st legal calm old new (Some end) input before ready quiet turn)
   stream-play (suc left) entries st legal calm old new end input before coming spare ready quiet (inr t) =
       let all = subst (λ (es : List Entry). Legal settings st es) t.3 legal in
-      let cut = legal_cut tells settings st t.0 t.1 all in
+      let cut = legal_cut settings st t.0 t.1 all in
       let mid-state = end_of settings st t.0 in
-      let end-is : end_of settings st entries ≡ end_of settings mid-state t.1 = ap (end_of settings st) t.3 ∙ end_append tells settings st t.0 t.1 in
+      let end-is : end_of settings st entries ≡ end_of settings mid-state t.1 = ap (end_of settings st) t.3 ∙ end_append settings st t.0 t.1 in
       let calm-all = subst (λ (x : State). Calm st.faults x.faults) end-is calm in
       let up = faults-grow settings t.0 st cut.0 in
       let more = faults-grow settings t.1 mid-state cut.1 in
@@ -347,12 +343,9 @@ module _ (settings : Settings) (tells : Type 0) (witness : tells) where
       let by = serves-by new.remote n entries old new end served_so refl in (
         by.0,
         by.2,
-        stream-play n entries st legal (calm-of records) old new end input before by.0 []
-            (record { input_is = begins.input_is; output_is = begins.output_is; rows = begins.rows; clock = begins.clock }) (calm-of calm) by.1,
+        stream-play n entries st legal (calm-of st.faults (end_of settings st entries).faults records) old new end input before by.0 []
+            (record { input_is = begins.input_is; output_is = begins.output_is; rows = begins.rows; clock = begins.clock }) (calm-of old.blob_faults new.blob_faults calm) by.1,
       )
-    where
-      calm-of : {a b : ℕ} → StoodStill a b → Calm a b
-      calm-of stood = (let h = stood.0 in omega arith, let h = stood.0 in let k = stood.1 in omega arith)
 
 -- where nothing failed
 unbroken-is : (settings : Settings) (n : ℕ) (scene : Scene) (before : List ℕ) (old new : Outside) (end : End) → NoFaults old new

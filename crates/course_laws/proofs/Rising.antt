@@ -3,17 +3,15 @@ use Rattle.std.proofs.Common.{◌≡◌, ℕ, ◌≤◌, ◌<◌, refl, sym, sub
 use Rattle.outside.specs.Faults.{Rose, last_count}
 use Rattle.outside_remote.specs.Exchanges.{Sees}
 use Rattle.repo_course.specs.Serving.{Outside}
-
--- no count fell
-pub record Grew (old new : Outside) : Type 0 where
-  pub reads : old.read_faults ≤ new.read_faults
-  pub writes : old.write_faults ≤ new.write_faults
-  pub blobs : old.blob_faults ≤ new.blob_faults
-  pub remote : old.remote.faults ≤ new.remote.faults
+use Rattle.course_laws.specs.AsPlayed.{StoodStill}
+pub use Rattle.course_laws.specs.Endings.{Grew}
 
 -- a count did not rise, and does not stand at the end of its type
 abbrev pub Calm : ℕ → ℕ → Type 0
 Calm before after = (after ≤ before) × (before < last_count)
+
+pub calm-of : (before after : ℕ) → StoodStill before after → Calm before after
+calm-of before after stood = (let h = stood.0 in omega arith, let h = stood.0 in let k = stood.1 in omega arith)
 
 pub not-risen : (before after : ℕ) → Rose before after → after ≤ before → before < last_count → ⊥
 not-risen before after rose le lt = omega arith

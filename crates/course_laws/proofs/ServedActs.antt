@@ -129,9 +129,9 @@ told-plain _ told = tt
 
 pub reply-plain : (r : Rounds) (command : Command) (reply : Reply) (due : Option Close) → IsPlain due → IsPlain (due_after r command reply due)
 reply-plain r command reply due plain =
-    elim (due-moves r command reply due) [
-      | inl stays ↦ subst IsPlain (sym stays) plain
-      | inr told ↦ subst IsPlain (sym told.1) (told-plain told.0 told.2)
+    elim (due-moves r command reply) [
+      | inl stays ↦ subst IsPlain (sym (stays due)) plain
+      | inr told ↦ subst IsPlain (sym (told.1 due)) (told-plain told.0 told.2)
     ]
 
 -- a reply that is granted comes where its course goes on, or counts as want of memory

@@ -1,7 +1,7 @@
 -- A turn keeps the bytes of each file's blob told, where those of the blob that it puts are, and the clock; and where nothing
 -- failed its entry is the one that is due.
-use Rattle.std.proofs.Common.{◌≡◌, ℕ, ◌+◌, ◌≤◌, Bool, true, false, List, [], ◌∷◌, Option, Some, None, Result, Ok, Err, arith, refl, sym, subst, ◌∙◌, map}
-use Rattle.std.specs.Prelude.{IsSome, MatchOption, if◌then◌else◌, filter, find, min, max}
+use Rattle.std.proofs.Common.{◌≡◌, ℕ, ◌+◌, ◌≤◌, true, false, List, [], ◌∷◌, Option, Some, None, Result, Ok, Err, arith, refl, sym, subst, ◌∙◌}
+use Rattle.std.specs.Prelude.{IsSome, MatchOption, if◌then◌else◌, find, min, max}
 use Rattle.std.specs.List.{AllByRecursion, flat_map}
 use Rattle.std.specs.Option.{option_map, option_map_or}
 use Rattle.std.proofs.lemmas.Bool.{false≢true}
@@ -25,12 +25,12 @@ use Rattle.repo_model.specs.Data.{Blob, Hosted, Kept, Phase, Proxy, Row, Session
 use Rattle.repo_model.specs.Fetched.{Landing, got_file, got_doc}
 use Rattle.repo_model.specs.Proxies.{decided, kept_at, subject_of}
 use Rattle.repo_model.specs.declared.step.Step.{Step}
-use Rattle.repo_model.specs.declared.step.Step.TheVariants.{Serve, Missed, Blocked, Negative, Never, Fetch}
+use Rattle.repo_model.specs.declared.step.Step.TheVariants.{Serve}
 use Rattle.repo_model.specs.Effect.{Effect, creates, stages, delivers, discards, relists, fades, expires, opens, ends, caches, at_proxy, in_proxy, proxy_after, in_repo, rows_after, sessions_after, repo_of, with_effect, with_effects, with_row, with_staged, without_staged, list_again, fade, new_row, new_session}
 use Rattle.repo_model.specs.History.{Entry, Legal, MomentFits, after, effects_of, end, latest_moment, ticked}
 use Rattle.repo_model.specs.Reply.{Reply, file, is_free}
-use Rattle.repo_model.specs.Settings.{GroupRule, ProxyRule, Rule, Settings}
-use Rattle.repo_model.specs.State.{State, change_first, change_where, files_of, hosted_of, is_among, is_open_at, is_proxy, is_repository, is_row, is_session, new_hosted, new_proxy, opening, proxy_of, row_at, rows_of}
+use Rattle.repo_model.specs.Settings.{GroupRule, Settings}
+use Rattle.repo_model.specs.State.{State, files_of, hosted_of, is_among, is_open_at, is_proxy, is_repository, is_row, is_session, new_hosted, new_proxy, opening, proxy_of, row_at, rows_of}
 use Rattle.repo_model.specs.Turn.{Turn, Seen, directory_of, document_shown, document_text, each_seen, fetches_one, file_shown, first_or, gives_draft_up, group_seen, is_doc, is_file, is_nothing, is_of_file, is_text, lands_by, lands_file, look_at, member_seen, merged_of, or_nothing, proxy_seen, seen_at, served_by, serves_or_fetches, stepped, turn}
 use Rattle.repo_model.specs.Deploy.{deliver_again, deliver_at, deliver_all, discard_all}
 use Rattle.course_laws.proofs.Alls.{all-joined, all-mapped}
@@ -38,6 +38,9 @@ use Rattle.course_laws.specs.AsPlayed.{RowsTold}
 use Rattle.course_laws.specs.Duties.{MayAsk, Stand}
 use Rattle.course_laws.specs.Faultless.{due_entry, moment_now}
 use Rattle.repo_laws.proofs.Cases.{Case, lends_file, deploys, aborts, unlists, collects, lands_one, turn-case}
+use Rattle.repo_laws.proofs.HoldingLists.{all-change_first, all-change_where, all-filter}
+use Rattle.repo_laws.proofs.Orderly.{found-has}
+use Rattle.repo_laws.proofs.Faults.{clock-left}
 
 abbrev pub IsTold : Row → Type 0
 IsTold row = IsSome row.blob.bytes
@@ -53,39 +56,6 @@ SessionTold x = AllByRecursion IsStagedTold x.staged
 
 abbrev ProxyTold : Proxy → Type 0
 ProxyTold p = AllTold p.files
-
--- lists
-
-changed : {X : Type 0} (P : X → Type 0) (test : X → Bool) (f : X → X) → ((x : X) → P x → P (f x)) → (xs : List X) → AllByRecursion P xs
-    → AllByRecursion P (change_where test f xs)
-changed P test f keeps [] all = tt
-changed P test f keeps (x ∷ xs) all =
-    (elim (test x) as (λ b. P (if b then f x else x)) [ true ↦ keeps x all.0 | false ↦ all.0 ], changed P test f keeps xs all.1)
-
-changed-first : {X : Type 0} (P : X → Type 0) (test : X → Bool) (f : X → X) → ((x : X) → P x → P (f x)) → (xs : List X) → AllByRecursion P xs
-    → AllByRecursion P (change_first test f xs)
-changed-first P test f keeps [] all = tt
-changed-first P test f keeps (x ∷ xs) all =
-    elim (test x) as (λ b. AllByRecursion P (if b then f x ∷ xs else x ∷ change_first test f xs)) [
-      | true ↦ (keeps x all.0, all.1)
-      | false ↦ (all.0, changed-first P test f keeps xs all.1)
-    ]
-
-found : {X : Type 0} (P : X → Type 0) (test : X → Bool) (xs : List X) (x : X) → AllByRecursion P xs → find test xs ≡ Some x → P x
-found P test [] x all is = absurd (cc)
-found P test (y ∷ ys) x all is =
-    elim (test y) as (λ b. (if b then Some y else find test ys) ≡ Some x → P x) [
-      | true ↦ λ here. subst P (cc) all.0
-      | false ↦ λ later. found P test ys x all.1 later
-    ] is
-
-filtered : {X : Type 0} (P : X → Type 0) (test : X → Bool) (xs : List X) → AllByRecursion P xs → AllByRecursion P (filter test xs)
-filtered P test [] all = tt
-filtered P test (x ∷ xs) all =
-    elim (test x) as (λ b. AllByRecursion P (if b then x ∷ filter test xs else filter test xs)) [
-      | true ↦ (all.0, filtered P test xs all.1)
-      | false ↦ filtered P test xs all.1
-    ]
 
 placed : {X : Type 0} (P : X → Type 0) (new x : X) (xs more : List X) → P new → AllByRecursion P (x ∷ xs) → AllByRecursion P more → (o : Ordering)
     → AllByRecursion P (match_ordering o (new ∷ x ∷ xs) (new ∷ x ∷ xs) (x ∷ more))
@@ -116,28 +86,28 @@ EffectTold effect = Unit {0}
 rows-told : (e : Effect) → EffectTold e → (rows : List Row) → AllTold rows → AllTold (rows_after e rows)
 rows-told (creates repo path blob moment) told rows all = with-row-told (new_row path blob moment) rows told all
 rows-told (delivers n repo path blob moment) told rows all = with-row-told (new_row path blob moment) rows told all
-rows-told (relists repo path moment) told rows all = changed IsTold _ (list_again moment) (λ row is. is) rows all
-rows-told (fades repo path moment) told rows all = changed IsTold _ (fade moment) (λ row is. is) rows all
-rows-told (expires repo path blob) told rows all = filtered IsTold _ rows all
+rows-told (relists repo path moment) told rows all = all-change_where IsTold _ (list_again moment) (λ row is. is) rows all
+rows-told (fades repo path moment) told rows all = all-change_where IsTold _ (fade moment) (λ row is. is) rows all
+rows-told (expires repo path blob) told rows all = all-filter IsTold _ rows all
 rows-told effect told rows all = all
 
 repo-told : (repo : Option (List ℕ)) (f : List Row → List Row) → ((rows : List Row) → AllTold rows → AllTold (f rows)) → (hosted : List Hosted)
     → AllByRecursion (λ (h : Hosted). AllTold h.rows) hosted → AllByRecursion (λ (h : Hosted). AllTold h.rows) (in_repo repo f hosted)
 repo-told None f keeps hosted all = all
 repo-told (Some repo) f keeps hosted all =
-    changed-first (λ (h : Hosted). AllTold h.rows) (is_repository repo) (λ h. record h { rows = f h.rows }) (λ h is. keeps h.rows is) hosted all
+    all-change_first (λ (h : Hosted). AllTold h.rows) (is_repository repo) (λ h. record h { rows = f h.rows }) (λ h is. keeps h.rows is) hosted all
 
 sessions-told : (e : Effect) → EffectTold e → (sessions : List Session) → AllByRecursion SessionTold sessions → AllByRecursion SessionTold (sessions_after e sessions)
 sessions-told (stages n path blob) told sessions all =
-    changed-first SessionTold (is_open_at n) (λ x. record x { staged = with_staged (record { path = path; blob = blob }) x.staged })
+    all-change_first SessionTold (is_open_at n) (λ x. record x { staged = with_staged (record { path = path; blob = blob }) x.staged })
     (λ x is. with-staged-told (record { path = path; blob = blob }) x.staged told is) sessions all
 sessions-told (delivers n repo path blob moment) told sessions all =
-    changed-first SessionTold (is_open_at n) (without_staged path) (λ x is. filtered IsStagedTold _ x.staged is) sessions all
+    all-change_first SessionTold (is_open_at n) (without_staged path) (λ x is. all-filter IsStagedTold _ x.staged is) sessions all
 sessions-told (discards n path m) told sessions all =
-    changed-first SessionTold (is_open_at n) (without_staged path) (λ x is. filtered IsStagedTold _ x.staged is) sessions all
+    all-change_first SessionTold (is_open_at n) (without_staged path) (λ x is. all-filter IsStagedTold _ x.staged is) sessions all
 sessions-told (opens n repo) told sessions all = all-joined SessionTold sessions (new_session n repo ∷ []) all (tt, tt)
 sessions-told (ends n result) told sessions all =
-    changed-first SessionTold (is_open_at n) (λ x. record x { ended = Some result }) (λ x is. is) sessions all
+    all-change_first SessionTold (is_open_at n) (λ x. record x { ended = Some result }) (λ x is. is) sessions all
 sessions-told effect told sessions all = all
 
 proxy-told : (e : Effect) → EffectTold e → (p : Proxy) → ProxyTold p → ProxyTold (proxy_after e p)
@@ -147,7 +117,7 @@ proxy-told effect told p all = all
 proxies-told : (id : Option (List ℕ)) (f : Proxy → Proxy) → ((p : Proxy) → ProxyTold p → ProxyTold (f p)) → (proxies : List Proxy)
     → AllByRecursion ProxyTold proxies → AllByRecursion ProxyTold (in_proxy id f proxies)
 proxies-told None f keeps proxies all = all
-proxies-told (Some id) f keeps proxies all = changed-first ProxyTold (is_proxy id) f keeps proxies all
+proxies-told (Some id) f keeps proxies all = all-change_first ProxyTold (is_proxy id) f keeps proxies all
 
 pub effects-told : (es : List Effect) (s : State) → AllByRecursion EffectTold es → RowsTold s → RowsTold (with_effects s es)
 effects-told [] s tells all = all
@@ -157,10 +127,6 @@ effects-told (e ∷ es) s tells all =
       sessions-told e tells.0 s.sessions all.1,
       proxies-told (at_proxy e) (proxy_after e) (proxy-told e tells.0) s.proxies all.2,
     )
-
-effects-clock : (es : List Effect) (s : State) → (with_effects s es).clock ≡ s.clock
-effects-clock [] s = refl
-effects-clock (e ∷ es) s = effects-clock es (with_effect s e)
 
 effects-faults : (es : List Effect) (s : State) → (with_effects s es).faults ≡ s.faults
 effects-faults [] s = refl
@@ -196,7 +162,7 @@ some-seen f (Some x) each = each x refl
 
 seen-told : (path : List ℕ) (rows : List Row) → AllTold rows → (k : Result Kind PathFault) → SeenTold (seen_at rows path k)
 seen-told path rows all (Ok (File c)) =
-    some-seen (λ (row : Row). is_file row.blob) (row_at path rows) (λ row is. found IsTold (is_row path) rows row all is)
+    some-seen (λ (row : Row). is_file row.blob) (row_at path rows) (λ row is. found-has IsTold (is_row path) rows row all is)
 seen-told path rows all (Ok (FileSide c side)) =
     some-seen (λ (row : Row). is_text (side_text side row.blob.print.digests)) (row_at (text_of c) rows) (λ row is. tt)
 seen-told path rows all (Ok (Doc d)) = some-seen is_doc (document_text d rows) (λ bytes is. tt)
@@ -205,33 +171,23 @@ seen-told path rows all (Ok (DocSide d side)) =
 seen-told path rows all (Err fault) = tt
 
 file-shown-told : (k : Result Kind PathFault) (row : Row) → IsTold row → SeenTold (file_shown k row)
-file-shown-told (Ok (File c)) row told = told
 file-shown-told (Ok (FileSide c side)) row told = tt
-file-shown-told (Ok (Doc d)) row told = told
-file-shown-told (Ok (DocSide d side)) row told = told
-file-shown-told (Err fault) row told = told
+file-shown-told _ row told = told
 
 document-shown-told : (k : Result Kind PathFault) (document : Document) → SeenTold (document_shown k document)
 document-shown-told (Ok (File c)) document = tt
-document-shown-told (Ok (FileSide c side)) document = tt
-document-shown-told (Ok (Doc d)) document = tt
-document-shown-told (Ok (DocSide d side)) document = tt
-document-shown-told (Err fault) document = tt
+document-shown-told _ document = tt
 
 served-told : (p : Proxy) → ProxyTold p → (at : List ℕ) (k : Result Kind PathFault) → SeenTold (served_by p at k)
 served-told p told at k =
     elim (is_of_file k) as (λ b. SeenTold (if b then or_nothing (file_shown k) (row_at at p.files) else or_nothing (λ (kept : Kept). document_shown k kept.document) (kept_at at p.documents))) [
-      | true ↦ some-seen (file_shown k) (row_at at p.files) (λ row is. file-shown-told k row (found IsTold (is_row at) p.files row told is))
+      | true ↦ some-seen (file_shown k) (row_at at p.files) (λ row is. file-shown-told k row (found-has IsTold (is_row at) p.files row told is))
       | false ↦ some-seen (λ (kept : Kept). document_shown k kept.document) (kept_at at p.documents) (λ kept is. document-shown-told k kept.document)
     ]
 
 stepped-told : (member : ℕ) (p : Proxy) → ProxyTold p → (at : List ℕ) (k : Result Kind PathFault) (step : Step) → SeenTold (stepped member p at k step)
 stepped-told member p told at k Serve = served-told p told at k
-stepped-told member p told at k Fetch = tt
-stepped-told member p told at k Missed = tt
-stepped-told member p told at k Blocked = tt
-stepped-told member p told at k Negative = tt
-stepped-told member p told at k Never = tt
+stepped-told member p told at k _ = tt
 
 first-told : (o : Option Seen) (seen : Seen) → ((x : Seen) → o ≡ Some x → SeenTold x) → SeenTold seen → SeenTold (first_or o seen)
 first-told None seen each told = told
@@ -259,9 +215,9 @@ module _ (settings : Settings) (s : State) (told : RowsTold s) where
       as (λ o. hosted_of id s ≡ o → SeenTold (option_map_or (λ (h : Hosted). seen_at h.rows path k) o (option_map_or (λ (p : Proxy). proxy_seen member p now tried path k) (proxy_of id s) is_nothing))) [
         | None ↦ λ _. elim (proxy_of id s) as (λ o. proxy_of id s ≡ o → SeenTold (option_map_or (λ (p : Proxy). proxy_seen member p now tried path k) o is_nothing)) [
           | None ↦ λ is. tt
-          | Some p ↦ λ is. stepped-told member p (found ProxyTold (is_proxy id) s.proxies p told.2 is) (subject_of path k) k (decided p now (is_among member tried) (subject_of path k))
+          | Some p ↦ λ is. stepped-told member p (found-has ProxyTold (is_proxy id) s.proxies p told.2 is) (subject_of path k) k (decided p now (is_among member tried) (subject_of path k))
         ] refl
-        | Some h ↦ λ is. seen-told path h.rows (found (λ (h : Hosted). AllTold h.rows) (is_repository id) s.hosted h told.0 is) k
+        | Some h ↦ λ is. seen-told path h.rows (found-has (λ (h : Hosted). AllTold h.rows) (is_repository id) s.hosted h told.0 is) k
       ] refl
 
   each-told : (now : ℕ) (tried path : List ℕ) (k : Result Kind PathFault) (member : ℕ) (ids : List (List ℕ)) → AllByRecursion SeenTold (each_seen s now tried path k member ids)
@@ -271,10 +227,10 @@ module _ (settings : Settings) (s : State) (told : RowsTold s) where
   group-told : (now : ℕ) (tried path : List ℕ) (k : Result Kind PathFault) (ids : List (List ℕ)) (o : Option Directory) → SeenTold (group_seen s now tried path k ids o)
   group-told now tried path k ids None =
       first-told (find serves_or_fetches (each_seen s now tried path k 0 ids)) is_nothing
-      (λ x is. found SeenTold serves_or_fetches (each_seen s now tried path k 0 ids) x (each-told now tried path k 0 ids) is) tt
+      (λ x is. found-has SeenTold serves_or_fetches (each_seen s now tried path k 0 ids) x (each-told now tried path k 0 ids) is) tt
   group-told now tried path k ids (Some d) =
       first-told (find fetches_one (each_seen s now tried path k 0 ids)) (or_nothing (document_shown k) (merged_of s now tried (subject_of path k) d ids))
-      (λ x is. found SeenTold fetches_one (each_seen s now tried path k 0 ids) x (each-told now tried path k 0 ids) is)
+      (λ x is. found-has SeenTold fetches_one (each_seen s now tried path k 0 ids) x (each-told now tried path k 0 ids) is)
       (some-seen (document_shown k) (merged_of s now tried (subject_of path k) d ids) (λ document is. document-shown-told k document))
 
   look-told : (now : ℕ) (id tried path : List ℕ) → SeenTold (look_at settings s now id tried path)
@@ -286,7 +242,7 @@ module _ (settings : Settings) (s : State) (told : RowsTold s) where
           | None ↦ member-told now tried path k 0 id
           | Some g ↦ group-told now tried path k g.members (directory_of k)
         ]
-        | Some h ↦ λ is. seen-told path h.rows (found (λ (h : Hosted). AllTold h.rows) (is_repository id) s.hosted h told.0 is) k
+        | Some h ↦ λ is. seen-told path h.rows (found-has (λ (h : Hosted). AllTold h.rows) (is_repository id) s.hosted h told.0 is) k
       ] refl
 
   deliver-tells : (x : Session) (now : ℕ) (item : Staged) → IsStagedTold item → (o : Option Row) → AllByRecursion EffectTold (deliver_at x now item o)
@@ -309,7 +265,7 @@ module _ (settings : Settings) (s : State) (told : RowsTold s) where
   case-tells now c t x (lands_one plan outcome drawn) may some = (lands-tell (files_of plan.proxy s) now plan outcome some, tt)
   case-tells now c t x (deploys n one is going) may some = (
     all-joined EffectTold (deliver_all one now (rows_of one.repo s)) _
-        (delivers-tell one now (rows_of one.repo s) one.staged (found SessionTold (is_session n) s.sessions one told.1 is)) (tt, tt),
+        (delivers-tell one now (rows_of one.repo s) one.staged (found-has SessionTold (is_session n) s.sessions one told.1 is)) (tt, tt),
     tt,
   )
   case-tells now c t x (aborts n one is going) may some =
@@ -334,7 +290,7 @@ module _ (settings : Settings) (s : State) (told : RowsTold s) where
 
 pub clock-stays : (settings : Settings) (s : State) (e : Entry) → IsSome s.clock → IsSome (after settings s e).clock
 clock-stays settings s e told =
-    subst (λ (o : Option Moments). IsSome o) (sym (effects-clock (effects_of settings s e) (ticked s e.moment e.faults))) (stays s.clock told)
+    subst (λ (o : Option Moments). IsSome o) (sym (clock-left settings s e)) (stays s.clock told)
   where
     stays : (o : Option Moments) → IsSome o → IsSome (option_map moments_after o)
     stays None told = absurd (false≢true told)
@@ -367,14 +323,7 @@ due-is settings s e c command moment faults reply =
     let replied = reply ∙ (λ i. (turn settings s (moment i) (command i)).reply) in
     λ i. record { command = command i; moment = moment i; reply = replied i; faults = faults i }
 
-no-rows : (rules : List Rule) → AllByRecursion (λ (h : Hosted). AllTold h.rows) (map new_hosted rules)
-no-rows [] = tt
-no-rows (rule ∷ rules) = (tt, no-rows rules)
-
-no-files : (rules : List ProxyRule) → AllByRecursion ProxyTold (map new_proxy rules)
-no-files [] = tt
-no-files (rule ∷ rules) = (tt, no-files rules)
-
 -- before the first turn there is no file
 pub opening-told : (settings : Settings) (clock : Option Moments) → RowsTold (opening settings clock)
-opening-told settings clock = (no-rows settings.hosted, tt, no-files settings.proxies)
+opening-told settings clock =
+    (all-mapped (λ (h : Hosted). AllTold h.rows) new_hosted (λ rule. tt) settings.hosted, tt, all-mapped ProxyTold new_proxy (λ rule. tt) settings.proxies)

@@ -10,6 +10,7 @@ use Rattle.repo_routes.specs.Intent.{Intent, Judged, puts_side, puts_document}
 use Rattle.repo_routes.specs.declared.judging.Refused.{Refused}
 use Rattle.repo_course.specs.Course.{Close, speaks, rests}
 use Rattle.repo_course.specs.declared.manner.Manner.{Manner}
+use Rattle.repo_course.specs.declared.said.Said.TheVariants as said
 use Rattle.course_laws.specs.Duties.{MayAsk, Stand, by_digest, by_document, due_after, duty_of, for_text, stand_after}
 use Rattle.course_laws.proofs.Early.{still-due}
 
@@ -40,20 +41,22 @@ reply-unsent command reply s may un = pick s.due refl
 pub reply-may : (command : Command) (reply : Reply) (s : Stand) → MayAsk command s → (written : List ℕ) → MayStand (stand_after command reply s) written → MayStand s written
 reply-may command reply s may written stood = (reply-unsent command reply s may stood.0, stood.1)
 
+-- what has nothing, and what has each answer to a text that is refused, what is due for a body's text has
+module _ (P : Option Close → Type 0) (none : P None) (no_digest : P (Some (speaks said.NoDigest))) (no_document : (at : ℕ) → P (Some (speaks (said.NoDocument at)))) where
+  digest-due : (found : Option (List ℕ)) → P (by_digest found)
+  digest-due (Some digest) = none
+  digest-due None = no_digest
+
+  document-due : (found : Result Document ℕ) → P (by_document found)
+  document-due (Ok document) = none
+  document-due (Err at) = no_document at
+
+  pub text-due : (intent : Intent) (bytes : List ℕ) → P (for_text intent bytes)
+  text-due (puts_side place path side count) bytes = digest-due (read_side side bytes)
+  text-due (puts_document place path count) bytes = document-due (reading bytes)
+  text-due _ bytes = none
+
 -- what a body says ends no stream
-digest-unsent : (found : Option (List ℕ)) → IsUnsent (by_digest found)
-digest-unsent (Some digest) = tt
-digest-unsent None = tt
-
-document-unsent : (found : Result Document ℕ) → IsUnsent (by_document found)
-document-unsent (Ok document) = tt
-document-unsent (Err at) = tt
-
-text-unsent : (intent : Intent) (bytes : List ℕ) → IsUnsent (for_text intent bytes)
-text-unsent (puts_side place path side count) bytes = digest-unsent (read_side side bytes)
-text-unsent (puts_document place path count) bytes = document-unsent (reading bytes)
-text-unsent _ bytes = tt
-
 pub judged-unsent : (judged : Result Judged Refused) (last : Bool) (bytes : List ℕ) → IsUnsent ((duty_of judged last).by_text bytes)
-judged-unsent (Ok request) last bytes = text-unsent request.intent bytes
+judged-unsent (Ok request) last bytes = text-due IsUnsent tt tt (λ at. tt) request.intent bytes
 judged-unsent (Err refused) last bytes = tt

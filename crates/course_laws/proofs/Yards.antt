@@ -1,14 +1,13 @@
 -- What a course holds stands in the yard beside what stood before it, entry by entry.
-use Rattle.std.proofs.Common.{◌≡◌, ◌≢◌, ◌⊎◌, ℕ, ◌<◌, ◌≤◌, ◌==◌, ◌||◌, ◌&&◌, Bool, true, false, not, if◌then◌else◌, List, [], ◌∷◌, ◌++◌, filter, Option, Some, None, inl, inr, ap, arith, refl, sym, subst, ◌∙◌, IsTrue}
-use Rattle.std.specs.Prelude.{is_some, nat_lt, Result, Ok, Err}
+use Rattle.std.proofs.Common.{◌≡◌, ◌≢◌, ℕ, ◌<◌, ◌≤◌, ◌==◌, ◌&&◌, Bool, true, false, not, if◌then◌else◌, List, [], ◌∷◌, ◌++◌, filter, Option, Some, None, ap, arith, refl, sym, subst, ◌∙◌, IsTrue}
+use Rattle.std.specs.Prelude.{is_some, Result, Ok}
 use Rattle.std.specs.List.{AllByRecursion}
-use Rattle.std.proofs.lemmas.Bool.{false≢true}
-use Rattle.std.proofs.lemmas.Bool.Decides.{eqb_tells}
+use Rattle.std.proofs.lemmas.Bool.{false≢true, and_parts, eq-eqb, eqb-true, ne_eqb, or_right}
 use Rattle.fetch_plan.specs.declared.Outcome.TheVariants as came
 use Rattle.mvn_coords.specs.Kind.{kind}
 use Rattle.mvn_coords.specs.declared.fault.PathFault.{PathFault}
 use Rattle.mvn_coords.specs.declared.kind.Kind.{Kind}
-use Rattle.mvn_coords.specs.declared.kind.Kind.TheVariants.{File, FileSide, Doc, DocSide}
+use Rattle.mvn_coords.specs.declared.kind.Kind.TheVariants.{File, Doc}
 use Rattle.mvn_metadata.specs.Document.{Document}
 use Rattle.repo_model.specs.Command.{Command, done, drop_draft, is_file_path, is_fit, is_landing, is_parcel, meets, proxy_rule_of, rule_of}
 use Rattle.repo_model.specs.Data.{Blob, Phase, Row, Session, Staged, fading, listed}
@@ -19,7 +18,7 @@ use Rattle.repo_model.specs.History.{Entry, Fits, IsReply, due, wants_memory, fa
 use Rattle.repo_model.specs.Paths.{takes}
 use Rattle.repo_model.specs.Reply.{Reply, is_free, no_draft, no_memory, store_fault, takes_memory}
 use Rattle.repo_model.specs.Settings.{Settings}
-use Rattle.repo_model.specs.State.{Lease, State, Yard, files_of, is_among, number_end, row_at, rows_of}
+use Rattle.repo_model.specs.State.{Lease, State, Yard, files_of, is_among, row_at, rows_of}
 use Rattle.repo_model.specs.Turn.{Turn, gives_draft_up, is_drawn, lands, lands_file, turn}
 use Rattle.repo_laws.proofs.Answered.{free-none, no-free, state-determined}
 use Rattle.repo_laws.proofs.Cases.{Case, lends_file, takes_back, gives_draft, not_drawn, makes_row, has_same, lists_again, has_other, gives_up, gives_nothing_up, opens_one, stage_not_drawn, stage_nowhere, stages_one, stage_full, stage_same, stage_other, deploys, aborts, unlists_nothing, unlists, collects, plans_file, plans_document, lands_one, lands_late, turn-case}
@@ -29,34 +28,19 @@ use Rattle.course_laws.specs.Duties.{MayAsk, Stand, draft_after, lease_after, st
 
 -- the numbers below one that is not below itself
 not_below : (n m : ℕ) → m < n → (m == n) ≡ false
-not_below n m below = pick (eqb_tells m n)
-  where
-    pick : ((m == n) ≡ true × (m ≡ n)) ⊎ ((m == n) ≡ false × (m ≢ n)) → (m == n) ≡ false
-    pick (inl is) = absurd (omega (arith, is.1))
-    pick (inr is) = is.0
-
-is_itself : (n : ℕ) → (n == n) ≡ true
-is_itself n = pick (eqb_tells n n)
-  where
-    pick : ((n == n) ≡ true × (n ≡ n)) ⊎ ((n == n) ≡ false × (n ≢ n)) → (n == n) ≡ true
-    pick (inl is) = is.0
-    pick (inr is) = absurd (is.1 refl)
+not_below n m below = ne_eqb m n (λ is. omega (arith, is, below))
 
 -- a number that stands behind smaller ones is taken away again
 pub taken_away : {X : Type 0} (number : X → ℕ) (next n : ℕ) (x : X) (xs : List X) → number x ≡ n → next ≤ n → NumbersAreBelow number next xs
     → filter (λ y. not (number y == n)) (xs ++ x ∷ []) ≡ xs
-taken_away number next n x [] is up below = rw (is, is_itself n) refl
+taken_away number next n x [] is up below = rw (is, eq-eqb n n refl) refl
 taken_away number next n x (y ∷ ys) is up below =
     rw (not_below n (number y) (let here = below.0 in omega arith)) (ap (λ zs. y ∷ zs) (taken_away number next n x ys is up below.1))
 
 -- a number stands among those behind which it was put
 stands_last : (n : ℕ) (ns : List ℕ) → is_among n (ns ++ n ∷ []) ≡ true
-stands_last n [] = rw (is_itself n) refl
-stands_last n (m ∷ ms) = rw (stands_last n ms) (or-true (m == n))
-  where
-    or-true : (b : Bool) → (b || true) ≡ true
-    or-true true = refl
-    or-true false = refl
+stands_last n [] = rw (eq-eqb n n refl) refl
+stands_last n (m ∷ ms) = or_right (m == n) (is_among n (ms ++ n ∷ [])) (stands_last n ms)
 
 -- the draft and the lease that a course holds stand behind those that stood before it, if these are below the next ones to draw
 abbrev pub OwnDraft : Yard → Option ℕ → List ℕ → Type 0
@@ -78,10 +62,7 @@ module _ (before : Yard) where
   abbrev pub Holds : Stand → Yard → Type 0
   Holds s now = Holding before s.draft s.lease now
 
-  -- a draft that is held is there, and may be given up
-  own-there : (n : ℕ) (now : Yard) → OwnDraft before (Some n) now.drafts → is_among n now.drafts ≡ true
-  own-there n now own = own.2
-
+  -- a draft that is held may be given up
   own-gone : (n : ℕ) (now : Yard) → OwnDraft before (Some n) now.drafts → IsDrawn before → filter (λ m. not (m == n)) now.drafts ≡ before.drafts
   own-gone n now own drawn =
       ap (filter (λ m. not (m == n))) (own.0 drawn) ∙ taken_away (λ (m : ℕ). m) before.next_draft n n before.drafts refl own.1 drawn.drafts
@@ -138,16 +119,7 @@ module _ (before : Yard) where
       again (fading since) = (tt, (tt, tt))
 
   number-is : (a : Bool) (n : ℕ) (blob : Blob) → IsTrue (a && is_parcel n blob) → blob.number ≡ n
-  number-is a n blob holds = pick (eqb_tells blob.number n)
-    where
-      pick : ((blob.number == n) ≡ true × (blob.number ≡ n)) ⊎ ((blob.number == n) ≡ false × (blob.number ≢ n)) → blob.number ≡ n
-      pick (inl is) = is.1
-      pick (inr is) = absurd (clash a (blob.number == n) (nat_lt blob.print.length number_end) holds is.0)
-        where
-          clash : (a b c : Bool) → IsTrue (a && (b && c)) → b ≡ false → ⊥
-          clash true true c holds is = cc
-          clash true false c holds is = cc
-          clash false b c holds is = cc
+  number-is a n blob holds = eqb-true blob.number n (and_parts (blob.number == n) _ (and_parts a (is_parcel n blob) holds).1).0
 
   -- what is held behind a turn, and the reply is not that a draft is missing
   abbrev Goes : Command → Stand → State → Turn → Type 0
@@ -160,7 +132,7 @@ module _ (before : Yard) where
     effects-yard (e ∷ es) u v is = effects-yard es (with_effect u e) (with_effect v e) (ap (yard_after e) is)
 
     own-draft : (n : ℕ) → s.draft ≡ Some n → is_among n st.yard.drafts ≡ true
-    own-draft n is = own-there n st.yard (subst (λ d. OwnDraft before d st.yard.drafts) is h.drafts)
+    own-draft n is = (subst (λ d. OwnDraft before d st.yard.drafts) is h.drafts).2
 
     case-goes : (now : ℕ) (c : Command) (t : Turn) → Case settings st now c t → MayAsk c s → IsTrue (meets settings c) → Goes c s st t
     case-goes now c t (lends_file repo path tried blob more seen) may can = (
@@ -252,12 +224,8 @@ module _ (before : Yard) where
       λ is. cc,
     )
     case-goes now c t (lands_one plan outcome drawn) may can =
-        (lands-hold outcome (and-second (is_some (proxy_rule_of plan.proxy settings)) (is_landing (kind plan.path) plan.draft outcome) can), λ is. cc)
+        (lands-hold outcome (and_parts (is_some (proxy_rule_of plan.proxy settings)) (is_landing (kind plan.path) plan.draft outcome) can).1, λ is. cc)
       where
-        and-second : (a b : Bool) → IsTrue (a && b) → IsTrue b
-        and-second true b is = is
-        and-second false b is = absurd (false≢true is)
-
         -- the draft of the plan is given up, where there is one
         up-held : (under : Option ℕ) → s.draft ≡ under → (later : Yard) → later ≡ (with_effects st (gives_draft_up under)).yard → Holding before None s.lease later
         up-held None is later same = subst (λ (y : Yard). Holding before None s.lease y) (sym same) (subst (λ d. Holding before d s.lease st.yard) is h)
@@ -271,21 +239,13 @@ module _ (before : Yard) where
             → Holding before None s.lease (with_effects st (caches plan.proxy plan.path blob moment ∷ clears_mark plan.proxy plan.path ∷ [])).yard
         file-held (Ok (File c)) (Some n) blob is fits moment =
             given-up s n st.yard _ is h (ap (λ k. filter (λ m. not (m == k)) st.yard.drafts) (number-is true n blob fits)) refl refl refl
-        file-held (Ok (File c)) None blob is fits moment = absurd (false≢true fits)
         file-held (Ok (Doc d)) None blob is fits moment = absurd (false≢true fits)
-        file-held (Ok (Doc d)) (Some n) blob is fits moment = absurd (false≢true fits)
-        file-held (Ok (FileSide c side)) under blob is fits moment = absurd (false≢true fits)
-        file-held (Ok (DocSide d side)) under blob is fits moment = absurd (false≢true fits)
-        file-held (Err fault) under blob is fits moment = absurd (false≢true fits)
+        file-held _ under blob is fits moment = absurd (false≢true fits)
 
         document-undrawn : (k : Result Kind PathFault) (under : Option ℕ) (document : Document) → IsTrue (is_landing k under (came.Got (got_doc document))) → under ≡ None
         document-undrawn (Ok (Doc d)) None document fits = refl
-        document-undrawn (Ok (File c)) (Some n) document fits = absurd (false≢true fits)
         document-undrawn (Ok (File c)) None document fits = refl
-        document-undrawn (Ok (Doc d)) (Some n) document fits = absurd (false≢true fits)
-        document-undrawn (Ok (FileSide c side)) under document fits = absurd (false≢true fits)
-        document-undrawn (Ok (DocSide d side)) under document fits = absurd (false≢true fits)
-        document-undrawn (Err fault) under document fits = absurd (false≢true fits)
+        document-undrawn _ under document fits = absurd (false≢true fits)
 
         row-held : (blob : Blob) (found : Option Row) → IsTrue (is_landing (kind plan.path) plan.draft (came.Got (got_file blob)))
             → Holding before None s.lease (with_effects st (lands_file plan blob now found)).yard

@@ -1,5 +1,5 @@
 -- How the end of a stream shows in the counts of faults of its two sides.
-use Rattle.std.specs.Prelude.{◌≡◌}
+use Rattle.std.specs.Prelude.{◌≡◌, ◌≤◌}
 use Rattle.outside.specs.Faults.{Rose}
 use Rattle.repo_course.specs.declared.outcomes.End.{End}
 use Rattle.repo_course.specs.declared.outcomes.End.TheVariants.{Closed, TornRequest, TurnLimit, SourceFault, SinkFault}
@@ -16,3 +16,10 @@ EndsByCause TornRequest old new = NoneRose old new
 EndsByCause TurnLimit old new = NoneRose old new
 EndsByCause SourceFault old new = Rose old.read_faults new.read_faults × (new.write_faults ≡ old.write_faults)
 EndsByCause SinkFault old new = (new.read_faults ≡ old.read_faults) × Rose old.write_faults new.write_faults
+
+-- no count of faults fell
+pub record Grew (old new : Outside) : Type 0 where
+  pub reads : old.read_faults ≤ new.read_faults
+  pub writes : old.write_faults ≤ new.write_faults
+  pub blobs : old.blob_faults ≤ new.blob_faults
+  pub remote : old.remote.faults ≤ new.remote.faults

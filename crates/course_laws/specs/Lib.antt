@@ -11,4 +11,5 @@ pub mod Worked
 pub mod Refusals
 pub mod Granted
 pub mod Landed
+pub mod PutBodies
 pub mod Verdicts

@@ -38,6 +38,7 @@ ghost use Rattle.course_laws.specs.Endings.{EndsByCause};
 ghost use Rattle.course_laws.specs.Granted.{AllGranted, ComesWhole, IsAnsweredFor, Succeeds};
 ghost use Rattle.course_laws.specs.Landed.{AllLandWhatCame, HasOrigin};
 ghost use Rattle.course_laws.specs.LeftBehind.{IsDrawn, LeavesNothing};
+ghost use Rattle.course_laws.specs.PutBodies.{AllPutBody};
 ghost use Rattle.course_laws.specs.Refusals.{IsRefusedBy};
 ghost use Rattle.course_laws.specs.Verdicts.{with_faults};
 ghost use Rattle.course_laws.specs.Worked.{IsAnswered, abc_200, created_201, last_get, put_abc};
@@ -77,6 +78,15 @@ pub fn own_drafts_are_there<H: Held>()
 pub fn landings_are_fetched<H: Held>()
     ensures { (settings : Settings) (n : ℕ) (entries : List Entry) (old new : Outside) (ending : End) →
         ServesStream settings (AllTell H.bytes) n entries old new ending → AllLandWhatCame old.remote new.remote entries }
+{}
+
+/// Each file that a request puts or stages has the body that came behind its head, on a stream that tells its input: as many bytes as the
+/// head announced, and all of these came. Its blob has their fingerprint, and tells them, where it tells its bytes.
+pub fn puts_have_the_body_that_came<H: Held>()
+    ensures { (settings : Settings) (last : Bool) (entries : List Entry) (old new : Outside) (ending : Option End) (input rest : List ℕ)
+        (head : Head) (request : Judged) →
+        RequestTurn settings (AllTell H.bytes) last entries old new ending → old.input ≡ Some input → front input ≡ Whole head rest →
+        judge settings head ≡ Ok request → AllPutBody (length_of request.intent) rest entries }
 {}
 
 /// Where a turn lands that its fetch was a fault, the count of the remote's faults rose in it, or stands at the end of its type.

@@ -10,5 +10,6 @@ pub use laws::{
     calls_are_few, courses_are_complete, courses_keep_their_duties, courses_succeed,
     ends_have_their_causes, faultless_is_played, first_faults_are_said, first_files_are_told,
     granted_requests_are_answered, landings_are_fetched, nothing_is_left_behind,
-    own_drafts_are_there, refusals_are_answered, remote_faults_are_counted, worked_exchange,
+    own_drafts_are_there, puts_have_the_body_that_came, refusals_are_answered,
+    remote_faults_are_counted, worked_exchange,
 };

@@ -1,23 +1,21 @@
 -- Entries that each fit some state, and what lists of them give back.
-use Rattle.std.proofs.Common.{◌≡◌, inl, inr, ℕ, false, List, [], ◌∷◌, ◌++◌, refl, sym, subst, IsTrue}
+use Rattle.std.proofs.Common.{◌≡◌, ◌⊎◌, inl, inr, ℕ, false, List, [], ◌∷◌, ◌++◌, refl, sym, subst, IsTrue}
 use Rattle.std.specs.List.{AllByRecursion}
 use Rattle.std.proofs.lemmas.Bool.{false≢true}
 use Rattle.repo_model.specs.Command.{Command, unlist, collect}
 use Rattle.repo_model.specs.Data.{Blob}
-use Rattle.repo_model.specs.History.{Entry, Fits, Legal, after}
+use Rattle.repo_model.specs.History.{Entry, Legal, after}
 use Rattle.repo_model.specs.Reply.{Reply, draft, file, fetches, is_free, can_get}
 use Rattle.repo_model.specs.Settings.{Settings}
 use Rattle.repo_model.specs.State.{State}
 use Rattle.repo_laws.proofs.Answered.{reply-can_get}
+pub use Rattle.repo_laws.proofs.HoldingLists.{all-split as all-cut}
 use Rattle.repo_laws.specs.Laws.{AnyByRecursion}
 use Rattle.repo_laws.specs.Replies.{GivesDraft}
 use Rattle.repo_course.specs.Asking.{LiesIn}
 use Rattle.course_laws.proofs.Passes.{ArePass, IsPassCommand}
+pub use Rattle.answer_laws.proofs.Given.{FitsOne}
 use Rattle.desk_laws.specs.Back.{GiveAllBack, SpendDrafts, ReturnLeases}
-
--- it fits some state
-abbrev pub FitsOne : Settings → Entry → Type 0
-FitsOne settings e = (s : State) × Fits settings s e
 
 there : (settings : Settings) (before rest : List Entry) (e : Entry) (s : State) → Legal settings s (before ++ e ∷ rest) → FitsOne settings e × ((u : State) × Legal settings u rest)
 there settings [] rest e s legal = ((s, legal.0), (after settings s e, legal.1))
@@ -30,10 +28,6 @@ all-fit settings (e ∷ entries) history s legal (before, rest, parts, lies) =
     (here.0, all-fit settings entries rest here.1.0 here.1.1 lies)
 
 module _ {X : Type 0} (P : X → Type 0) where
-  pub all-cut : (xs ys : List X) → AllByRecursion P (xs ++ ys) → AllByRecursion P xs × AllByRecursion P ys
-  all-cut [] ys all = (tt, all)
-  all-cut (x ∷ xs) ys all = let rest = all-cut xs ys all.1 in ((all.0, rest.0), rest.1)
-
   pub any-left : (xs ys : List X) → AnyByRecursion P xs → AnyByRecursion P (xs ++ ys)
   any-left [] ys any = absurd any
   any-left (x ∷ xs) ys (inl here) = inl here
@@ -42,6 +36,11 @@ module _ {X : Type 0} (P : X → Type 0) where
   pub any-right : (xs ys : List X) → AnyByRecursion P ys → AnyByRecursion P (xs ++ ys)
   any-right [] ys any = any
   any-right (x ∷ xs) ys any = inr (any-right xs ys any)
+
+pub any-cut : {X : Type 0} (P : X → Type 0) (xs ys : List X) → AnyByRecursion P (xs ++ ys) → AnyByRecursion P xs ⊎ AnyByRecursion P ys
+any-cut P [] ys any = inr any
+any-cut P (x ∷ xs) ys (inl here) = inl (inl here)
+any-cut P (x ∷ xs) ys (inr any) = elim (any-cut P xs ys any) [ inl one ↦ inl (inr one) | inr two ↦ inr two ]
 
 spend-both : (xs ys : List Entry) → SpendDrafts xs → SpendDrafts ys → SpendDrafts (xs ++ ys)
 spend-both [] ys first rest = rest
@@ -58,7 +57,7 @@ pub none-back : GiveAllBack []
 none-back = record { drafts = tt; leases = tt }
 
 -- a reply that is given by the state is one that the command can get
-given-bound : (n : ℕ) (reply : Reply) → GivesDraft n reply → is_free reply ≡ false
+pub given-bound : (n : ℕ) (reply : Reply) → GivesDraft n reply → is_free reply ≡ false
 given-bound n (draft m) gives = refl
 given-bound n (fetches plan) gives = refl
 given-bound n reply gives = absurd gives

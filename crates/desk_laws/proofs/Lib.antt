@@ -4,3 +4,8 @@ mod Servers
 mod Desks
 mod Seats
 mod Fetched
+mod Drawn
+mod Callers
+pub mod Telling
+pub mod Handing
+pub mod HandedOver

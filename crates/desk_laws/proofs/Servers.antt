@@ -1,8 +1,8 @@
 -- Where each caller's entries give all back, so do the entries of all, and nothing is left at their end.
-use Rattle.std.proofs.Common.{◌≡◌, ◌⊎◌, inl, inr, ℕ, ◌+◌, ◌==◌, Bool, true, false, cond, List, [], ◌∷◌, ◌++◌, map, Option, All, refl, sym, subst, ap, ◌∙◌, zero-add, arith, IsTrue}
+use Rattle.std.proofs.Common.{◌≡◌, ◌⊎◌, inl, inr, ℕ, ◌+◌, ◌==◌, Bool, true, false, cond, List, [], ◌∷◌, ◌++◌, map, All, refl, sym, subst, ap, ◌∙◌, zero-add, arith, IsTrue}
 use Rattle.std.specs.Prelude.{sum_by}
 use Rattle.std.specs.List.{AllByRecursion, AllZip, list_any}
-use Rattle.std.proofs.lemmas.Bool.{false≢true}
+use Rattle.std.proofs.lemmas.Bool.{false≢true, eq-eqb}
 use Rattle.std.proofs.lemmas.Bool.Decides.{eqb_tells}
 use Rattle.std.proofs.lemmas.List.Elements.{All-head, All-tail}
 use Rattle.std.proofs.lemmas.List.Sums.{sum_by-cons}
@@ -12,7 +12,7 @@ use Rattle.repo_model.specs.History as machine
 use Rattle.repo_model.specs.History.{Entry}
 use Rattle.repo_model.specs.Reply.{file}
 use Rattle.repo_model.specs.Settings.{Settings}
-use Rattle.repo_model.specs.State.{Lease, State, is_among}
+use Rattle.repo_model.specs.State.{Lease, State}
 use Rattle.repo_laws.specs.Laws.{AnyByRecursion}
 use Rattle.repo_laws.specs.Replies.{GivesDraft, spends}
 use Rattle.naming_laws.specs.Left.{IsDraftLeft, IsLeaseLeft}
@@ -25,7 +25,7 @@ use Rattle.turn_lock.specs.declared.seat.SeatToken.{SeatToken as Seat}
 use Rattle.turn_lock.specs.History.{entries_by}
 use Rattle.turn_lock.specs.Seats.{joined, mine, number, opening}
 use Rattle.turn_seats.specs.Ending.{HoldsSeat, times_in}
-use Rattle.turn_seats.specs.Seated.{Sight, entry_of}
+use Rattle.turn_seats.specs.Seated.{entry_of}
 use Rattle.desk_work.specs.Passages.{Passage, PassesThrough, entries_in}
 use Rattle.desk_work.specs.Visits.{Attends, Visit, entries_of}
 use Rattle.desk_work.specs.Rules.{Rules}
@@ -44,7 +44,7 @@ module _ {T C R : Type 0} (as_entry : Call C R T → Entry) where
     | false ↦ all-by P k log all.1
   ]
 
-  any-by : (P : Entry → Type 0) (k : ℕ) (log : List (Call C R T)) → AnyByRecursion P (map as_entry (entries_by k log)) → AnyByRecursion P (map as_entry log)
+  pub any-by : (P : Entry → Type 0) (k : ℕ) (log : List (Call C R T)) → AnyByRecursion P (map as_entry (entries_by k log)) → AnyByRecursion P (map as_entry log)
   any-by P k [] any = any
   any-by P k (c ∷ log) any = pick (λ later. any-by P k log later) (c.by == k) any where
     pick : (AnyByRecursion P (map as_entry (entries_by k log)) → AnyByRecursion P (map as_entry log)) → (b : Bool)
@@ -54,11 +54,7 @@ module _ {T C R : Type 0} (as_entry : Call C R T → Entry) where
     pick rest false later = inr (rest later)
 
   pub is-itself : (n : ℕ) → (n == n) ≡ true
-  is-itself n = pick (eqb_tells n n)
-    where
-      pick : ((n == n) ≡ true × (n ≡ n)) ⊎ ((n == n) ≡ false × ((n ≡ n) → ⊥)) → (n == n) ≡ true
-      pick (inl is) = is.0
-      pick (inr is) = absurd (is.1 refl)
+  is-itself n = eq-eqb n n refl
 
   -- behind its first entry each caller's entries do too
   tail-back : (c : Call C R T) (log : List (Call C R T)) (k : ℕ) (b : Bool) → GiveAllBack (map as_entry (cond b (c ∷ entries_by k log) (entries_by k log)))
@@ -103,29 +99,16 @@ no-lease-left entries n back (before, rest, e, blob, parts, given, none) =
     none-of (λ (x : Entry). (x.command ≡ done n) → ⊥) (λ (x : Entry). x.command ≡ done n) (λ x no yes. no yes) rest none
     (lease-at before rest e n blob (subst ReturnLeases parts back.leases) given)
 
-no-drafts : (ns : List ℕ) → ((n : ℕ) → IsTrue (is_among n ns) → ⊥) → ns ≡ []
-no-drafts [] none = refl
-no-drafts (n ∷ ns) none = absurd (none n (or-first (eqb_tells n n)))
-  where
-    or-first : ((n == n) ≡ true × (n ≡ n)) ⊎ ((n == n) ≡ false × ((n ≡ n) → ⊥)) → IsTrue (is_among n (n ∷ ns))
-    or-first (inl is) = rw is.0 refl
-    or-first (inr is) = absurd (is.1 refl)
-
-no-leases : (ls : List Lease) → ((n : ℕ) → IsTrue (list_any (λ (l : Lease). l.number == n) ls) → ⊥) → ls ≡ []
-no-leases [] none = refl
-no-leases (l ∷ ls) none = absurd (none l.number (or-first (eqb_tells l.number l.number)))
-  where
-    or-first : ((l.number == l.number) ≡ true × (l.number ≡ l.number)) ⊎ ((l.number == l.number) ≡ false × ((l.number ≡ l.number) → ⊥))
-        → IsTrue (list_any (λ (other : Lease). other.number == l.number) (l ∷ ls))
-    or-first (inl is) = rw is.0 refl
-    or-first (inr is) = absurd (is.1 refl)
+none-numbered : {X : Type 0} (number : X → ℕ) (xs : List X) → ((n : ℕ) → IsTrue (list_any (λ x. number x == n) xs) → ⊥) → xs ≡ []
+none-numbered number [] none = refl
+none-numbered number (x ∷ xs) none = absurd (none (number x) (rw (eq-eqb (number x) (number x) refl) refl))
 
 pub nothing-left : (settings : Settings) (start : State) (entries : List Entry) → machine.Legal settings start entries → GiveAllBack entries
     → start.yard.drafts ≡ [] → start.yard.leases ≡ []
     → ((machine.end settings start entries).yard.drafts ≡ []) × ((machine.end settings start entries).yard.leases ≡ [])
 nothing-left settings start entries legal back no_drafts no_leases = (
-  no-drafts (machine.end settings start entries).yard.drafts (λ n among. no-draft-left entries n back (draft-left settings start entries n legal no_drafts among)),
-  no-leases (machine.end settings start entries).yard.leases (λ n among. no-lease-left entries n back (lease-left settings start entries n legal no_leases among)),
+  none-numbered (λ (n : ℕ). n) (machine.end settings start entries).yard.drafts (λ n among. no-draft-left entries n back (draft-left settings start entries n legal no_drafts among)),
+  none-numbered (λ (l : Lease). l.number) (machine.end settings start entries).yard.leases (λ n among. no-lease-left entries n back (lease-left settings start entries n legal no_leases among)),
 )
 
 -- each caller of a server gives all back
@@ -134,12 +117,11 @@ module _ {L P D T C R : Type 0} (looks : Looks L P D) (settings : Settings) (rul
     (fit : AllByRecursion (FitsOne under) (map (entry_of rules.sight) log)) where
   -- a seat that has taken no other in is no such caller, or the caller's entries are its own
   pub own-of : (seat : Seat C R T) → joined seat ≡ [] → HoldsSeat log seat → (k : ℕ) → (times_in k seat ≡ 0) ⊎ (mine seat ≡ entries_by k log)
-  own-of seat none holds k = pick (eqb_tells (number seat) k)
-    where
-      pick : ((number seat == k) ≡ true × (number seat ≡ k)) ⊎ ((number seat == k) ≡ false × ((number seat ≡ k) → ⊥))
-          → (times_in k seat ≡ 0) ⊎ (mine seat ≡ entries_by k log)
-      pick (inl is) = inr (subst (λ n. mine seat ≡ entries_by n log) is.1 holds.1.0)
-      pick (inr is) = inl (rw (none, is.0) refl)
+  own-of seat none holds k =
+      elim (eqb_tells (number seat) k) [
+        | inl is ↦ inr (subst (λ n. mine seat ≡ entries_by n log) is.1 holds.1.0)
+        | inr is ↦ inl (rw (none, is.0) refl)
+      ]
 
   fit-by : (k : ℕ) (entries : List Entry) → entries ≡ map (entry_of rules.sight) (entries_by k log) → AllByRecursion (FitsOne under) entries
   fit-by k entries is = subst (AllByRecursion (FitsOne under)) (sym is) (all-by (entry_of rules.sight) (FitsOne under) k log fit)
@@ -158,42 +140,61 @@ module _ {L P D T C R : Type 0} (looks : Looks L P D) (settings : Settings) (rul
       let cut = all-cut (FitsOne under) p.entries (entries_in ps) fits in
       both-back p.entries (entries_in ps) (pass-back under p.entries cut.0 (passes-ask _ p.entries before p.left p.result through.0)) (passes-back p.left after ps through.1 cut.1)
 
-  desk-back : (desk : D) (out : Seat C R T × (D × Bool)) → DeskDone looks rules settings turns first desk out → HoldsSeat log out.0 → (k : ℕ)
-      → (times_in k out.0 ≡ 0) ⊎ GiveAllBack (map (entry_of rules.sight) (entries_by k log))
-  desk-back desk out (own, begun, (did, over)) holds k = pick (own-of out.0 (did.gained.stays.1 ∙ begun.2) holds k)
+  abbrev Out : Type 0
+  Out = Seat C R T × (D × Bool)
+
+  abbrev Entries : ℕ → List Entry
+  Entries k = map (entry_of rules.sight) (entries_by k log)
+
+  -- a caller's entries are a desk's, or the desk has none of them
+  desk-entries : (desk : D) (out : Out) (it : DeskDone looks rules settings turns first desk out) → HoldsSeat log out.0 → (k : ℕ)
+      → (times_in k out.0 ≡ 0) ⊎ (entries_of it.2.0.visits ≡ Entries k)
+  desk-entries desk out (own, begun, (did, over)) holds k = pick (own-of out.0 (did.gained.stays.1 ∙ begun.2) holds k)
     where
-      pick : (times_in k out.0 ≡ 0) ⊎ (mine out.0 ≡ entries_by k log) → (times_in k out.0 ≡ 0) ⊎ GiveAllBack (map (entry_of rules.sight) (entries_by k log))
+      pick : (times_in k out.0 ≡ 0) ⊎ (mine out.0 ≡ entries_by k log) → (times_in k out.0 ≡ 0) ⊎ (entries_of did.visits ≡ Entries k)
       pick (inl away) = inl away
       pick (inr is) =
           let calls : did.gained.calls ≡ entries_by k log = ap (λ (cs : List (Call C R T)). cs ++ did.gained.calls) (sym begun.1) ∙ sym did.gained.mine_are ∙ is in
-          let entries : entries_of did.visits ≡ map (entry_of rules.sight) (entries_by k log) = did.gained.entries_are ∙ ap (map (entry_of rules.sight)) calls in
-          inr (subst GiveAllBack entries (visits-back (looks.kit desk) (looks.kit out.1.0) did.visits did.attends (fit-by k (entries_of did.visits) entries)))
+          inr (did.gained.entries_are ∙ ap (map (entry_of rules.sight)) calls)
 
-  desks-back : (k : ℕ) (desks : List D) (outs : List (Seat C R T × (D × Bool))) → AllZip (DeskDone looks rules settings turns first) desks outs
-      → All (HoldsSeat log) (map (λ (out : Seat C R T × (D × Bool)). out.0) outs) → sum_by (times_in k) (map (λ (out : Seat C R T × (D × Bool)). out.0) outs) ≡ 1
-      → GiveAllBack (map (entry_of rules.sight) (entries_by k log))
-  desks-back k [] [] served held one = absurd (omega (arith, one))
-  desks-back k [] (o ∷ os) served held one = absurd served
-  desks-back k (d ∷ ds) [] served held one = absurd served
-  desks-back k (d ∷ ds) (o ∷ os) served held one =
-      elim (desk-back d o served.0 (All-head (HoldsSeat log) o.0 (map (λ (out : Seat C R T × (D × Bool)). out.0) os) held) k) [
-        | inl away ↦
-            desks-back k ds os served.1 (All-tail (HoldsSeat log) o.0 (map (λ (out : Seat C R T × (D × Bool)). out.0) os) held)
-            (sym (zero-add _) ∙ subst (λ n. n + sum_by (times_in k) (map (λ (out : Seat C R T × (D × Bool)). out.0) os) ≡ 1) away
-            (sym (sum_by-cons (times_in k) o.0 (map (λ (out : Seat C R T × (D × Bool)). out.0) os)) ∙ one))
-        | inr back ↦ back
-      ]
-
-  cleaner-back : (new : Seat C R T) (before after : Broom) → CleanedBeside rules settings turns first new before after
-      → HoldsSeat log new → (k : ℕ) → (times_in k new ≡ 0) ⊎ GiveAllBack (map (entry_of rules.sight) (entries_by k log))
-  cleaner-back new before after (handed, same, kept) holds k = pick (own-of new (kept.gained.stays.1 ∙ same.3 ∙ apart) holds k)
+  -- or they are the cleaner's
+  cleaner-entries : (new : Seat C R T) (before after : Broom) (cleaned : CleanedBeside rules settings turns first new before after) → HoldsSeat log new → (k : ℕ)
+      → (times_in k new ≡ 0) ⊎ (entries_in cleaned.2.passages ≡ Entries k)
+  cleaner-entries new before after (handed, same, kept) holds k = pick (own-of new (kept.gained.stays.1 ∙ same.3 ∙ apart) holds k)
     where
-      pick : (times_in k new ≡ 0) ⊎ (mine new ≡ entries_by k log) → (times_in k new ≡ 0) ⊎ GiveAllBack (map (entry_of rules.sight) (entries_by k log))
+      pick : (times_in k new ≡ 0) ⊎ (mine new ≡ entries_by k log) → (times_in k new ≡ 0) ⊎ (entries_in kept.passages ≡ Entries k)
       pick (inl away) = inl away
       pick (inr is) =
           let calls : kept.gained.calls ≡ entries_by k log = ap (λ (cs : List (Call C R T)). cs ++ kept.gained.calls) (sym (same.2 ∙ alone)) ∙ sym kept.gained.mine_are ∙ is in
-          let entries : entries_in kept.passages ≡ map (entry_of rules.sight) (entries_by k log) = kept.gained.entries_are ∙ ap (map (entry_of rules.sight)) calls in
-          inr (subst GiveAllBack entries (passes-back before.blobs after.blobs kept.passages kept.passes (fit-by k (entries_in kept.passages) entries)))
+          inr (kept.gained.entries_are ∙ ap (map (entry_of rules.sight)) calls)
+
+  -- what holds where the caller's entries are the first desk's, and where it holds of the desks behind that, holds of all
+  module _ (k : ℕ) (Q : List D → List Out → Type 0)
+      (here : (d : D) (o : Out) (ds : List D) (os : List Out) (it : DeskDone looks rules settings turns first d o) → entries_of it.2.0.visits ≡ Entries k → Q (d ∷ ds) (o ∷ os))
+      (more : (d : D) (o : Out) (ds : List D) (os : List Out) → Q ds os → Q (d ∷ ds) (o ∷ os)) where
+    desks-so : (desks : List D) (outs : List Out) → AllZip (DeskDone looks rules settings turns first) desks outs
+        → All (HoldsSeat log) (map (λ (out : Out). out.0) outs) → sum_by (times_in k) (map (λ (out : Out). out.0) outs) ≡ 1 → Q desks outs
+    desks-so [] [] served held one = absurd (omega (arith, one))
+    desks-so [] (o ∷ os) served held one = absurd served
+    desks-so (d ∷ ds) [] served held one = absurd served
+    desks-so (d ∷ ds) (o ∷ os) served held one =
+        elim (desk-entries d o served.0 (All-head (HoldsSeat log) o.0 (map (λ (out : Out). out.0) os) held) k) [
+          | inl away ↦
+              more d o ds os
+              (desks-so ds os served.1 (All-tail (HoldsSeat log) o.0 (map (λ (out : Out). out.0) os) held)
+              (sym (zero-add _) ∙ subst (λ n. n + sum_by (times_in k) (map (λ (out : Out). out.0) os) ≡ 1) away
+              (sym (sum_by-cons (times_in k) o.0 (map (λ (out : Out). out.0) os)) ∙ one)))
+          | inr is ↦ here d o ds os served.0 is
+        ]
+
+    pub caller-so : (desks : List D) (outs : List Out) → AllZip (DeskDone looks rules settings turns first) desks outs → All (HoldsSeat log) (map (λ (out : Out). out.0) outs)
+        → (new : Seat C R T) (before after : Broom) (cleaned : CleanedBeside rules settings turns first new before after) → HoldsSeat log new
+        → times_in k new + sum_by (times_in k) (map (λ (out : Out). out.0) outs) ≡ 1 → (entries_in cleaned.2.passages ≡ Entries k → Q desks outs) → Q desks outs
+    caller-so desks outs served held new before after cleaned holds one cleaner =
+        elim (cleaner-entries new before after cleaned holds k) [
+          | inl away ↦ desks-so desks outs served held (sym (zero-add _) ∙ subst (λ n. n + sum_by (times_in k) (map (λ (out : Out). out.0) outs) ≡ 1) away one)
+          | inr is ↦ cleaner is
+        ]
 
 -- the calls of a history that is legal fit
 pub all-fit : (settings : Settings) (s : State) (entries : List Entry) → machine.Legal settings s entries → AllByRecursion (FitsOne settings) entries
@@ -215,19 +216,22 @@ module _ {L P D T C R : Type 0} (looks : Looks L P D) (settings : Settings) (rul
       log : List (Call C R T)
       log = works.ended.log
 
-      others : List (Seat C R T)
-      others = map (λ (out : Seat C R T × (D × Bool)). out.0) works.outs
+      fit : AllByRecursion (FitsOne under) (map (entry_of rules.sight) log)
+      fit = all-fit under (rules.sight.state (opening turns)) (map (entry_of rules.sight) log) works.history.legal
 
-      each : (k : ℕ) → GiveAllBack (map (entry_of rules.sight) (entries_by k works.ended.log))
+      each : (k : ℕ) → GiveAllBack (map (entry_of rules.sight) (entries_by k log))
       each k =
-          let fits = all-fit (rules.sight.settings (opening turns)) (rules.sight.state (opening turns)) (map (entry_of rules.sight) works.ended.log) works.history.legal in
           elim (works.ended.nobody_else k) [
             | inl one ↦
-                elim (cleaner-back looks settings rules turns first alone apart (rules.sight.settings (opening turns)) works.ended.log fits works.cleaning old.cleaner new.cleaner works.cleaned works.ended.first k) [
-                  | inl away ↦
-                      desks-back looks settings rules turns first alone apart (rules.sight.settings (opening turns)) works.ended.log fits k old.desks works.outs works.done works.ended.rest
-                      (sym (zero-add _) ∙ subst (λ n. n + sum_by (times_in k) (map (λ (out : Seat C R T × (D × Bool)). out.0) works.outs) ≡ 1) away one)
-                  | inr back ↦ back
-                ]
+                caller-so looks settings rules turns first alone apart under log fit k (λ ds os. GiveAllBack (map (entry_of rules.sight) (entries_by k log)))
+                (λ d o ds os it is.
+                subst GiveAllBack is
+                (visits-back looks settings rules turns first alone apart under log fit (looks.kit d) (looks.kit o.1.0) it.2.0.visits it.2.0.attends
+                (fit-by looks settings rules turns first alone apart under log fit k (entries_of it.2.0.visits) is)))
+                (λ d o ds os back. back) old.desks works.outs works.done works.ended.rest works.cleaning old.cleaner new.cleaner works.cleaned works.ended.first one
+                (λ is.
+                subst GiveAllBack is
+                (passes-back looks settings rules turns first alone apart under log fit old.cleaner.blobs new.cleaner.blobs works.cleaned.2.passages works.cleaned.2.passes
+                (fit-by looks settings rules turns first alone apart under log fit k (entries_in works.cleaned.2.passages) is)))
             | inr none ↦ subst (λ (cs : List (Call C R T)). GiveAllBack (map (entry_of rules.sight) cs)) (sym none.1) none-back
           ]

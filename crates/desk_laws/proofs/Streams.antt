@@ -2,12 +2,11 @@
 use Rattle.std.proofs.Common.{◌≡◌, ◌⊎◌, inl, inr, ℕ, zero, suc, ◌==◌, Bool, true, false, not, ◌&&◌, List, [], ◌∷◌, Option, Some, None, refl, sym, subst, ap, ◌∙◌, IsTrue}
 use Rattle.std.specs.Prelude.{if◌then◌else◌}
 use Rattle.std.specs.List.{AllByRecursion}
-use Rattle.std.proofs.lemmas.Bool.{false≢true}
-use Rattle.std.proofs.lemmas.Bool.Decides.{eqb_tells}
+use Rattle.std.proofs.lemmas.Bool.{false≢true, eq-eqb}
 use Rattle.repo_model.specs.Command.{Command, look, done, may_put, put, stage, drop_draft, land}
 use Rattle.repo_model.specs.Data.{Blob}
 use Rattle.repo_model.specs.History.{Entry}
-use Rattle.repo_model.specs.Reply.{Reply, created, same, relisted, taken, staged, session_full, no_session, draft, dropped, file, fetches, landed, can_get}
+use Rattle.repo_model.specs.Reply.{Reply, created, same, draft, dropped, file, fetches, landed, can_get}
 use Rattle.repo_model.specs.Settings.{Settings}
 use Rattle.repo_laws.specs.Laws.{AnyByRecursion}
 use Rattle.repo_laws.specs.Replies.{GivesDraft, is_under, leaves_drafts, spends, uses_draft}
@@ -22,23 +21,10 @@ use Rattle.course_laws.proofs.Passes.{deed-asks}
 use Rattle.desk_laws.specs.Back.{GiveAllBack}
 use Rattle.desk_laws.proofs.Fitting.{FitsOne, all-cut, any-right, both-back, draft-by, file-by, none-back, pass-back}
 
-is-itself : (n : ℕ) → (n == n) ≡ true
-is-itself n = pick (eqb_tells n n)
-  where
-    pick : ((n == n) ≡ true × (n ≡ n)) ⊎ ((n == n) ≡ false × ((n ≡ n) → ⊥)) → (n == n) ≡ true
-    pick (inl is) = is.0
-    pick (inr is) = absurd (is.1 refl)
-
 -- a reply by which the draft is used up or given up is none that leaves it
 uses-up : (reply : Reply) → spends_draft reply ≡ true → leaves_drafts reply ≡ false
 uses-up created is = refl
-uses-up same is = refl
-uses-up relisted is = refl
-uses-up (taken kept sent) is = refl
-uses-up staged is = refl
-uses-up session_full is = refl
-uses-up no_session is = refl
-uses-up reply is = absurd (false≢true is)
+uses-up _ is = (cc)
 
 -- the draft that is held still is, or the entry spends it
 put-or-spent : (m n : ℕ) (held : Option ℕ) (reply : Reply) (b : Bool) → spends_draft reply ≡ b → held ≡ Some m → held ≡ Some n
@@ -46,7 +32,7 @@ put-or-spent : (m n : ℕ) (held : Option ℕ) (reply : Reply) (b : Bool) → sp
 put-or-spent m n held reply false is own other = inl other
 put-or-spent m n held reply true is own other =
     let same : m ≡ n = cc in
-    inr (subst (λ k. ((m == k) && not (leaves_drafts reply)) ≡ true) same (rw (is-itself m, uses-up reply is) refl))
+    inr (subst (λ k. ((m == k) && not (leaves_drafts reply)) ≡ true) same (rw (eq-eqb m m refl, uses-up reply is) refl))
 
 draft-or-spent : (command : Command) (reply : Reply) (s : Stand) (n : ℕ) → MayAsk command s → ((m : ℕ) → command ≡ drop_draft m → reply ≡ dropped) → s.draft ≡ Some n
     → (draft_after command reply s.draft ≡ Some n) ⊎ ((uses_draft n command && not (leaves_drafts reply)) ≡ true)
@@ -55,10 +41,10 @@ draft-or-spent (put repo path m blob) reply s n may drops is = put-or-spent m n 
 draft-or-spent (stage at path m blob) reply s n may drops is = put-or-spent m n s.draft reply (spends_draft reply) refl may.1 is
 draft-or-spent (drop_draft m) reply s n may drops is =
     let same : m ≡ n = cc in
-    inr (subst (λ (r : Reply). ((m == n) && not (leaves_drafts r)) ≡ true) (sym (drops m refl)) (subst (λ k. ((m == k) && true) ≡ true) same (rw (is-itself m) refl)))
+    inr (subst (λ (r : Reply). ((m == n) && not (leaves_drafts r)) ≡ true) (sym (drops m refl)) (subst (λ k. ((m == k) && true) ≡ true) same (rw (eq-eqb m m refl) refl)))
 draft-or-spent (look repo path tried) reply s n may drops is = absurd (let no : s.draft ≡ None = may.2 in cc)
 draft-or-spent (land plan outcome) landed s n may drops is =
-    inr (subst (λ (o : Option ℕ). (is_under n o && true) ≡ true) (sym is ∙ may.2) (rw (is-itself n) refl))
+    inr (subst (λ (o : Option ℕ). (is_under n o && true) ≡ true) (sym is ∙ may.2) (rw (eq-eqb n n refl) refl))
 draft-or-spent command reply s n may drops is = inl is
 
 -- so is the lease, or it is given back

@@ -1,7 +1,7 @@
-//! What follows for drafts and leases. No function here has code: its contract is the law.
-ghost use Rattle.std.specs.Prelude.{◌≡◌, ℕ, Bool, List, [], map};
+//! What follows for drafts, leases and blobs. No function here has code: its contract is the law.
+ghost use Rattle.std.specs.Prelude.{◌≡◌, ◌≤◌, ℕ, Bool, List, [], map};
 ghost use Rattle.std.specs.List.{AllZip};
-ghost use Rattle.repo_model.specs.History.{Entry};
+ghost use Rattle.repo_model.specs.History.{Entry, Legal};
 ghost use Rattle.repo_model.specs.Settings.{Settings};
 ghost use Rattle.repo_model.specs.State.{State};
 ghost use Rattle.repo_course.specs.Asking.{IsWoven};
@@ -9,6 +9,7 @@ ghost use Rattle.repo_course.specs.Serving.{AllTell, Outside, ServesStream};
 ghost use Rattle.repo_course.specs.declared.outcomes.End.{End};
 ghost use Rattle.run_desks.specs.Seen.{Floor, looks};
 ghost use Rattle.run_desks.specs.declared.objects.Desk.{Desk};
+ghost use Rattle.stop_laws.specs.Handed.{AllHandTold, AnyHands, HandOnce};
 ghost use Rattle.turn_lock.specs.Seats.{opening, mine, joined, seen};
 ghost use Rattle.turn_seats.specs.Ending.{HoldsSeat};
 ghost use Rattle.seat_laws.specs.Closing.{IsFit, SeesAll};
@@ -49,6 +50,32 @@ pub fn servers_answer_what_was_fetched<P: Port, B: Blobs, R: Remote, T: Reposito
         mine seat ≡ [] → joined seat ≡ [] →
         AreFilesFetched (looks ⟦<P as Port>⟧ ⟦<P::Link as Tells>⟧ ⟦<B as Blobs>⟧ ⟦<B::Held as Held>⟧ ⟦<R as Remote>⟧) (T.sight.settings (opening turns)) (T.sight.state (opening turns))
         (map (entry_of T.sight) works.ended.log) old.desks new.desks }
+{}
+
+/// Each blob that a served stream hands over, to be put, staged or landed, tells its bytes and has their fingerprint, where the store's blobs tell
+/// theirs. Of a stream that is served alone no two have one number, and none has a number that was drawn before.
+pub fn streams_hand_over_each_blob_once<H: Held>()
+    ensures told { (settings : Settings) (n : ℕ) (entries : List Entry) (old new : Outside) (ending : End) →
+        ServesStream settings (AllTell H.bytes) n entries old new ending → AllTell H.bytes → AllHandTold entries }
+    ensures once { (settings : Settings) (n : ℕ) (start : State) (entries : List Entry) (old new : Outside) (ending : End) →
+        Legal settings start entries → ServesStream settings (AllTell H.bytes) n entries old new ending → HandOnce entries }
+    ensures drawn { (settings : Settings) (n : ℕ) (start : State) (entries : List Entry) (old new : Outside) (ending : End) →
+        Legal settings start entries → ServesStream settings (AllTell H.bytes) n entries old new ending →
+        (k : ℕ) → AnyHands k entries → start.yard.next_draft ≤ k }
+{}
+
+/// So it is of the one history of all desks and the cleaner, where they have worked to the end: no two blobs that are handed over in it have one
+/// number, whichever desks stored them. The seat that was handed in had made no call and had taken no other seat in.
+pub fn servers_hand_over_each_blob_once<P: Port, B: Blobs, R: Remote, T: Repository>()
+    ensures told { (settings : Settings) (turns : _) (seat : _) (old new : Floor (List (Desk P B R P.Link B.Held B.Pen))) (thing : T) (calls : ℕ) (failed : Bool) →
+        (works : Works (looks ⟦<P as Port>⟧ ⟦<P::Link as Tells>⟧ ⟦<B as Blobs>⟧ ⟦<B::Held as Held>⟧ ⟦<R as Remote>⟧) (rules ⟦<T as Thing>⟧ T.sight) settings turns seat old new thing calls failed) →
+        mine seat ≡ [] → joined seat ≡ [] → AllTell B.Held.bytes → AllHandTold (map (entry_of T.sight) works.ended.log) }
+    ensures once { (settings : Settings) (turns : _) (seat : _) (old new : Floor (List (Desk P B R P.Link B.Held B.Pen))) (thing : T) (calls : ℕ) (failed : Bool) →
+        (works : Works (looks ⟦<P as Port>⟧ ⟦<P::Link as Tells>⟧ ⟦<B as Blobs>⟧ ⟦<B::Held as Held>⟧ ⟦<R as Remote>⟧) (rules ⟦<T as Thing>⟧ T.sight) settings turns seat old new thing calls failed) →
+        mine seat ≡ [] → joined seat ≡ [] → HandOnce (map (entry_of T.sight) works.ended.log) }
+    ensures drawn { (settings : Settings) (turns : _) (seat : _) (old new : Floor (List (Desk P B R P.Link B.Held B.Pen))) (thing : T) (calls : ℕ) (failed : Bool) →
+        (works : Works (looks ⟦<P as Port>⟧ ⟦<P::Link as Tells>⟧ ⟦<B as Blobs>⟧ ⟦<B::Held as Held>⟧ ⟦<R as Remote>⟧) (rules ⟦<T as Thing>⟧ T.sight) settings turns seat old new thing calls failed) →
+        mine seat ≡ [] → joined seat ≡ [] → (k : ℕ) → AnyHands k (map (entry_of T.sight) works.ended.log) → (T.sight.state (opening turns)).yard.next_draft ≤ k }
 {}
 
 /// Each turn of each connection of each desk ends by its cause, as `streams_are_answered_by_cause` of `answer_laws` says, in the one

@@ -2,6 +2,8 @@ mod Woven
 mod Showing
 mod Stopped
 mod Runs
+mod Swept
+mod Kept
 mod Servers
 mod Opened
 mod Across

@@ -105,7 +105,7 @@ module _ (settings : Settings) (records : Recorded) (old cleared : Store) (clock
   begun-unstaged shelf =
       subst (AreStagedStored shelf) (sym begins.starts.state) (starts-staged settings begins.starts.tells begins.starts.stored clock records.faults begins.tables shelf)
 
-  begun-stands : StandsFor begins.tables core.state
+  pub begun-stands : StandsFor begins.tables core.state
   begun-stands =
       subst (StandsFor begins.tables) (sym begins.starts.state)
       (started-stands settings begins.starts.tells begins.starts.stored clock records.faults begins.tables whole-order whole-range)

@@ -1,10 +1,13 @@
 -- A server by its one history.
-use Rattle.std.proofs.Common.{◌≡◌, ℕ, List, [], ◌∷◌, map, refl, sym, subst, ap, ◌∙◌}
+use Rattle.std.proofs.Common.{◌≡◌, ◌≤◌, ℕ, List, [], ◌∷◌, map, Option, refl, sym, subst, ap, ◌∙◌}
 use Rattle.repo_model.specs.History.{Entry, Legal}
 use Rattle.repo_model.specs.Settings.{Settings}
 use Rattle.repo_model.specs.State.{State}
 use Rattle.repo_core.specs.CoreTurn.{CoreTurn}
 use Rattle.repo_core.specs.Whole.{Whole}
+use Rattle.store_check.specs.Checking.{Recorded}
+use Rattle.outside.specs.Moments.{Moments}
+use Rattle.repo_run.specs.Begun.{Begins}
 use Rattle.repo_run.specs.FirstConnection.{Makes}
 use Rattle.repo_run.specs.Surroundings.{FirstOnly, View}
 use Rattle.closed_laws.specs.Streams.{ShowsWhatWasNamed}
@@ -15,10 +18,14 @@ use Rattle.turn_lock.specs.Seats.{opening}
 use Rattle.turn_seats.specs.Seated.{entry_of}
 use Rattle.run_desks.specs.Seen.{Floor, Looks}
 use Rattle.desk_work.specs.Rules.{Rules}
-use Rattle.run_serve.specs.Serving.{ServesBy, not_started, refused, started, worked}
+use Rattle.desk_laws.proofs.HandedOver.{works-drawn, works-once, works-told}
+use Rattle.stop_laws.specs.Handed.{AllHandTold, AnyHands, HandOnce}
+use Rattle.run_serve.specs.Serving.{OtherBlobs, ServesBy, not_started, refused, started, worked}
+use Rattle.served_laws.specs.Kept.{ServerKeepsBytes}
 use Rattle.served_laws.specs.Runs.{CompletesTold, ServerShows, idle, served}
 use Rattle.served_laws.specs.Shown.{DesksShow}
 use Rattle.served_laws.specs.Stopped.{ServerOutlasts, calls_made}
+use Rattle.served_laws.proofs.Kept.{entries-called, keeps-bytes}
 use Rattle.served_laws.proofs.Runs.{begun-closed, begun-completes, begun-outlasts, begun-records, made, told-completed}
 use Rattle.served_laws.proofs.Showing.{desks-show}
 use Rattle.served_laws.proofs.Stopped.{GoesOn, calls-go-on, stays}
@@ -30,6 +37,11 @@ same-ports port Related same [] news only = absurd only
 same-ports port Related same (old ∷ olds) [] only = absurd only
 same-ports {D} {P} port Related same (old ∷ olds) (new ∷ news) only =
     ap (λ (p : P). p ∷ map port news) (same old new only.0) ∙ ap (λ (ds : List D). port old ∷ map port ds) only.1
+
+-- what holds of the first desk
+first-at : {D : Type 0} (Related : D → D → Type 0) (new : D) (olds news : List D) → FirstOnly Related olds (new ∷ news) → (old : D) × Related old new
+first-at Related new [] news only = absurd only
+first-at Related new (old ∷ olds) news only = (old, only.0)
 
 -- what holds of the first desks where the others are the same
 first-of : {D : Type 0} (Related : D → D → Type 0) (olds news : List D) → FirstOnly Related olds news → (old : D) × (new : D) × Related old new
@@ -86,3 +98,34 @@ module _ {L P D C R : Type 0} (looks : Looks L P D) (rules : Rules Whole C R)
       subst (λ (w : Whole). GoesOn settings core t (calls_made rules.sight log) w) (sym last)
       (calls-go-on settings rules.sight rules.steps is_turn log core t legal begins.settings_are told_so))
       holds
+
+  -- the repository was opened over the first desk's store
+  abbrev IsOver : Recorded → Option Moments → Whole → D → D → Type 0
+  IsOver records clock core = OtherBlobs looks (λ blobs blobs'. Begins settings records blobs blobs' clock core)
+
+  opened-over : (records : Recorded) (clock : Option Moments) (core : Whole) (desk : D) (others olds begun : List D) → begun ≡ desk ∷ others → FirstOnly (IsOver records clock core) olds begun
+      → (first : D) × Begins settings records (looks.kit first).blobs (looks.kit desk).blobs clock core
+  opened-over records clock core desk others olds begun is only =
+      let (first, related) = first-at (IsOver records clock core) desk olds others (subst (λ (ds : List D). FirstOnly (IsOver records clock core) olds ds) is only) in (first, related.2)
+
+  -- and so do the bytes that its desks stored, where their blobs tell them
+  pub server-keeps-bytes : (old new : View (Floor (List D))) (status : ℕ) (serves : ServesBy looks rules settings old new status) → looks.tells
+      → ServerKeepsBytes looks rules settings old new status serves
+  server-keeps-bytes old new status (not_started fault only same_broom same_clock told) tell = tt
+  server-keeps-bytes old new status (started core begun only (refused is holds same_clock told status_is)) tell = λ desk others desks_are.
+      let (first, begins) = opened-over old.records old.clock core desk others old.place.desks begun desks_are only in
+      keeps-bytes settings old.records (looks.kit first).blobs (looks.kit desk).blobs old.clock core begins new.records []
+      (server-outlasts old new status (started core begun only (refused is holds same_clock told status_is))) tt tt (λ n any. absurd any)
+  server-keeps-bytes old new status (started core begun only (worked turns seat left calls failed opens works holds same_clock told)) tell = λ desk others desks_are.
+      let (first, begins) = opened-over old.records old.clock core desk others old.place.desks begun desks_are only in
+      let log = works.ended.log in
+      let called = entries-called rules.sight log in
+      let state_is : rules.sight.state (opening turns) ≡ core.state = state_of (opening turns) ∙ ap (λ (w : Whole). w.state) opens.0 in
+      let floor = record old.place { desks = begun } in
+      keeps-bytes settings old.records (looks.kit first).blobs (looks.kit desk).blobs old.clock core begins new.records (calls_made rules.sight log)
+      (server-outlasts old new status (started core begun only (worked turns seat left calls failed opens works holds same_clock told)))
+      (subst AllHandTold (sym called) (works-told looks settings rules turns seat floor new.place left calls failed works opens.2 opens.3 tell))
+      (subst HandOnce (sym called) (works-once looks settings rules turns seat floor new.place left calls failed works opens.2 opens.3))
+      (λ n any.
+      subst (λ (s : State). s.yard.next_draft ≤ n) state_is
+      (works-drawn looks settings rules turns seat floor new.place left calls failed works opens.2 opens.3 n (subst (AnyHands n) called any)))

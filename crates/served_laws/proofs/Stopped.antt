@@ -1,12 +1,12 @@
 -- The turns of a core one after another, each with what is unsettled behind it, and what a start finds then.
-use Rattle.std.proofs.Common.{◌≡◌, ◌≢◌, inl, ℕ, Bool, false, List, [], ◌∷◌, ◌++◌, Option, Some, None, Ok, Err, refl, sym, subst, ap, append_assoc, ◌∙◌}
+use Rattle.std.proofs.Common.{◌≡◌, ◌≢◌, inl, ℕ, Bool, false, List, [], ◌∷◌, ◌++◌, Option, Some, None, Ok, refl, sym, subst, ap, append_assoc, ◌∙◌}
 use Rattle.std.specs.Prelude.{◌&&◌, IsTrue, Result, is_some}
 use Rattle.std.proofs.lemmas.List.Sums.{fold-append}
 use Rattle.mvn_coords.specs.Kind.{kind}
 use Rattle.mvn_coords.specs.Layout.{Coordinates}
 use Rattle.mvn_coords.specs.declared.fault.PathFault.{PathFault}
 use Rattle.mvn_coords.specs.declared.kind.Kind.{Kind}
-use Rattle.mvn_coords.specs.declared.kind.Kind.TheVariants.{File, FileSide, Doc, DocSide}
+use Rattle.mvn_coords.specs.declared.kind.Kind.TheVariants.{File}
 use Rattle.outside.specs.Blobs.{Shelf}
 use Rattle.repo_model.specs.declared.item.Item.{Item}
 use Rattle.repo_model.specs.Command.{Command, collect, is_fit, is_parcel, is_there, meets, put, rule_of}
@@ -45,12 +45,8 @@ use Rattle.served_laws.specs.Stopped.{AreMade, FindsSince, IsAnsweredStill, Made
 -- a rule that takes a file is there, and the path is that of a file
 takes-what : (rule : Option Rule) (k : Result Kind PathFault) (b : Bool) → IsTrue (is_fit (λ (r : Rule). takes_file r (file_in k)) rule && b)
     → IsTrue (is_some rule) × ((c : Coordinates) × (k ≡ Ok (File c)))
-takes-what None k b met = absurd (cc)
-takes-what (Some rule) (Err fault) b met = absurd (cc)
 takes-what (Some rule) (Ok (File c)) b met = (refl, (c, refl))
-takes-what (Some rule) (Ok (FileSide c side)) b met = absurd (cc)
-takes-what (Some rule) (Ok (Doc d)) b met = absurd (cc)
-takes-what (Some rule) (Ok (DocSide d side)) b met = absurd (cc)
+takes-what _ _ b met = absurd (cc)
 
 -- the tables are the first that a stop leaves between calls
 first-left : (t : Tables) (pending : Option (List Item)) → IsOneOf t (left_by t pending)
@@ -160,7 +156,7 @@ module _ (settings : Settings) where
       (stops-at front rest m (after settings s x.entry) (tables_after settings s x.entry t) x.leaves are.1)
 
   -- a front of what was made, and what was made behind it
-  made-on : (xs ys : List Made) → entries_made (xs ++ ys) ≡ entries_made xs ++ entries_made ys
+  pub made-on : (xs ys : List Made) → entries_made (xs ++ ys) ≡ entries_made xs ++ entries_made ys
   made-on [] ys = refl
   made-on (x ∷ xs) ys = ap (λ (es : List Entry). x.entry ∷ es) (made-on xs ys)
 

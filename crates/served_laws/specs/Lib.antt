@@ -3,3 +3,4 @@ pub mod Runs
 pub mod Restarted
 pub mod Stopped
 pub mod Worked
+pub mod Kept

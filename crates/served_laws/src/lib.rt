@@ -13,4 +13,7 @@ pub use laws::{
     servers_serve_named_files, worked_file_is_named,
 };
 pub use seats::seats_of_repositories_see_closed_histories;
-pub use stops::{cleanings_outlast_stops, replays_keep_created_files, servers_keep_created_files};
+pub use stops::{
+    cleanings_outlast_stops, replays_keep_created_files, replays_keep_the_bytes_that_came,
+    servers_keep_created_files, servers_keep_the_bytes_that_came,
+};

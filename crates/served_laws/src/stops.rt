@@ -11,6 +11,7 @@ ghost use Rattle.repo_run.specs.Replay.{IsReplayed};
 ghost use Rattle.repo_run.specs.Surroundings.{Served, View};
 ghost use Rattle.desk_work.specs.Rules.{rules};
 ghost use Rattle.run_serve.specs.Serving.{ServesBy};
+ghost use Rattle.served_laws.specs.Kept.{KeepsBytes, ServerKeepsBytes};
 ghost use Rattle.served_laws.specs.Stopped.{CleanOutlasts, RecordsOutlastStops, ServerOutlasts, turns_made};
 
 use outside::{Blobs, Clock, Held, Port, Tells};
@@ -57,4 +58,26 @@ pub fn replays_keep_created_files<H: Held>()
 /// And of the turns of a cleaning.
 pub fn cleanings_outlast_stops()
     ensures { (settings : Settings) (old new : View Store) (status : ℕ) (cleans : Cleans settings old new status) → CleanOutlasts settings old new status cleans }
+{}
+
+/// The bytes that a server acknowledged outlast stops, where the blobs of its desks' stores tell theirs, the first desk's store told what the
+/// start left of it, and the records told what they had. At each moment of the run a start finds no file damaged, in a store that keeps what the
+/// start left in it and each blob that a desk has handed over by then, be it that it has lost what Collects gave out before. And where
+/// the call of a `Put` returned `Created`, a start answers the file at each later moment with the bytes of its blob, of which its fingerprint is:
+/// once it has completed what it finds, and behind any entries, who looks at the file is given it with these bytes, or memory is wanting, or no
+/// lease is left; of a snapshot's file this is said up to the first Collect that is asked for, of a release's to the end. That these bytes are
+/// those that came behind the head of the request says `puts_have_the_body_that_came` of `course_laws`; that no two blobs that were handed over
+/// have one number, `servers_hand_over_each_blob_once` of `desk_laws`.
+pub fn servers_keep_the_bytes_that_came<P: Port, B: Blobs, R: Remote, K: Records, C: Clock>()
+    ensures { (settings : Settings) (old new : View (Floor (List (Desk P B R P.Link B.Held B.Pen)))) (status : ℕ)
+        (serves : ServesBy (looks ⟦<P as Port>⟧ ⟦<P::Link as Tells>⟧ ⟦<B as Blobs>⟧ ⟦<B::Held as Held>⟧ ⟦<R as Remote>⟧)
+        (rules ⟦<Core<K, C, B::Held> as Thing>⟧ ⟦<Core<K, C, B::Held> as Repository>⟧.sight) settings old new status) → AllTell B.Held.bytes →
+        ServerKeepsBytes (looks ⟦<P as Port>⟧ ⟦<P::Link as Tells>⟧ ⟦<B as Blobs>⟧ ⟦<B::Held as Held>⟧ ⟦<R as Remote>⟧)
+        (rules ⟦<Core<K, C, B::Held> as Thing>⟧ ⟦<Core<K, C, B::Held> as Repository>⟧.sight) settings old new status serves }
+{}
+
+/// So it is of a replay, whose connection is served over one store.
+pub fn replays_keep_the_bytes_that_came<H: Held>()
+    ensures { (settings : Settings) (old new : View Served) (ending : End) (calls : ℕ) (replayed : IsReplayed (AllTell H.bytes) settings old new ending calls) → AllTell H.bytes →
+        KeepsBytes settings old.records replayed.cleared.shelf replayed.begun (turns_made replayed.entries replayed.begun replayed.core replayed.made) }
 {}

@@ -11,7 +11,7 @@ use Rattle.stop_laws.specs.Runs.{IsAnsweredAgain, IsAnsweredWhole, IsAnsweredWit
 use Rattle.stop_laws.proofs.Stores.{told-there}
 
 pub answered-whole : (settings : Settings) (repo : List ℕ) (row : Row) (gone : List ℕ) (u : Tables) → is_among row.blob.number gone ≡ false → IsAnsweredAgain settings repo row u → IsAnsweredWhole settings gone repo row u
-answered-whole settings repo row gone u off again acknowledged found bytes stood keeps tells them told standing =
+answered-whole settings repo row gone u off again acknowledged bytes stood found keeps tells them told standing =
     let n = row.blob.number in
     let (those, acknowledged_told, at) = told-there n bytes acknowledged.blobs stood in
     let kept =

@@ -1,13 +1,13 @@
 -- What a Collect gave out to be removed is named by no row that a start finds from then on.
 use native.Mathlib.Omega.{arith}
-use Rattle.std.proofs.Common.{◌≡◌, ◌<◌, ◌≤◌, ℕ, Bool, true, false, not, cond, List, [], ◌∷◌, ◌++◌, length, Option, Some, None, refl, sym, ◌∙◌, ap, subst}
-use Rattle.std.specs.Prelude.{◌==◌, nat_lt, filter, count_by, if◌then◌else◌}
+use Rattle.std.proofs.Common.{◌≡◌, ◌<◌, ℕ, true, false, not, List, [], ◌∷◌, ◌++◌, length, Option, Some, None, refl, sym, ◌∙◌, ap, subst}
+use Rattle.std.specs.Prelude.{◌==◌, nat_lt, if◌then◌else◌}
 use Rattle.std.specs.List.{list_any}
 use Rattle.std.proofs.lemmas.Bool.{false≢true, false_from_ne_true, ltb-true, ltb-false}
 use Rattle.std.proofs.lemmas.List.Sums.{fold-append}
 use Rattle.repo_model.specs.declared.item.Item.{Item}
 use Rattle.repo_model.specs.Command.{collect}
-use Rattle.repo_model.specs.Effect.{Effect, draws, drops, creates, stages, delivers, discards, relists, fades, expires, forgets, lends, returns, opens, ends, caches, keeps_doc, marks_missing, clears_mark, without_staged, list_again, fade, with_effect, with_effects, items_of, recorded}
+use Rattle.repo_model.specs.Effect.{Effect, creates, delivers, relists, fades, expires, forgets, caches, without_staged, list_again, fade, with_effect, with_effects, items_of, recorded}
 use Rattle.repo_model.specs.History.{Entry, Fits, IsReply, Legal, after, due, effects_of, failed, ticked, wants_memory}
 use Rattle.repo_model.specs.May.{AllMay, May}
 use Rattle.repo_model.specs.Prints.{recorded_print}
@@ -22,16 +22,15 @@ use Rattle.repo_laws.specs.Holds.{Holds, InOrder, loose_in, named_in, told, with
 use Rattle.repo_laws.specs.Laws.{places_of}
 use Rattle.repo_laws.specs.Sound.{AreNamedApart, IsSound, Sound}
 use Rattle.repo_laws.proofs.ByPath.{all-apart}
-use Rattle.repo_laws.proofs.Counts.{among-counts, count-cons, found-goes, given-up, one_if, staged-counted, stages_it}
+use Rattle.repo_laws.proofs.Counts.{among-counts, count-filter, count-same, count-with_recorded, found-goes, given-up, one_if, staged-counted, stages_it}
 use Rattle.repo_laws.proofs.Histories.{entry-keeps, entry-may, moment-rises, one-place-ticked, sound-entry, sound-ticked, ticked-later}
 use Rattle.repo_laws.proofs.Holding.{effects-recorded}
 use Rattle.repo_laws.proofs.HoldingBlobs.{counts-named, named-counts}
-use Rattle.repo_laws.proofs.HoldingLists.{count-same}
-use Rattle.repo_laws.proofs.HoldingOrder.{count-with_recorded}
 use Rattle.repo_laws.proofs.Keeping.{keeps-sound}
 use Rattle.repo_laws.proofs.Purges.{expires-all}
 use Rattle.repo_laws.proofs.Turns.{unlent-has}
-use Rattle.repo_laws.proofs.Untouched.{among-has, cleared, collects, given-gone, gone-kept}
+use Rattle.repo_laws.proofs.Lists.{among-has}
+use Rattle.repo_laws.proofs.Untouched.{cleared, collects, given-gone, gone-kept}
 use Rattle.row_tables.specs.Stopping.{HasCollected}
 use Rattle.row_tables.specs.Stops.{Rests, Unsettled}
 use Rattle.stop_laws.specs.Found.{NamesNone}
@@ -40,15 +39,6 @@ use Rattle.stop_laws.specs.Stops.{IsLeft, Pends, fails, stays, undone}
 use Rattle.stop_laws.proofs.Fronts.{is-front, legal-front}
 use Rattle.stop_laws.proofs.RunLaws.{finds-more, runs-find}
 use Rattle.stop_laws.proofs.Spared.{none-named}
-
-count-filter : {X : Type 0} (p q : X → Bool) (xs : List X) → count_by p (filter q xs) ≤ count_by p xs
-count-filter p q [] = omega arith
-count-filter p q (x ∷ xs) =
-    let less = count-filter p q xs in
-    elim (q x) as (λ b. count_by p (cond b (x ∷ filter q xs) (filter q xs)) ≤ count_by p (x ∷ xs)) [
-      | true ↦ omega (arith, count-cons p x (filter q xs), count-cons p x xs, less)
-      | false ↦ omega (arith, count-cons p x xs, less)
-    ]
 
 -- where a forgetting comes last, it records nothing
 recorded-on : (es : List Effect) (blobs : List ℕ) → recorded (es ++ forgets blobs ∷ []) ≡ recorded es
@@ -90,18 +80,7 @@ module _ (grace now n : ℕ) where
       omega (arith, none, count-same (λ (r : RecordedRow). r.row.blob.number == n) (is_recorded repo path) (λ r. record r { row = fade moment r.row }) (λ r. refl) t.hosted)
   names-item s t nowhere none (expires repo path blob) may =
       omega (arith, none, count-filter (λ (r : RecordedRow). r.row.blob.number == n) (λ r. not (is_recorded repo path r)) t.hosted)
-  names-item s t nowhere none draws may = none
-  names-item s t nowhere none (drops m) may = none
-  names-item s t nowhere none (stages m path blob) may = none
-  names-item s t nowhere none (discards m path draft) may = none
-  names-item s t nowhere none (forgets blobs) may = none
-  names-item s t nowhere none (lends blob) may = none
-  names-item s t nowhere none (returns lease) may = none
-  names-item s t nowhere none (opens m repo) may = none
-  names-item s t nowhere none (ends m result) may = none
-  names-item s t nowhere none (keeps_doc id path document moment) may = none
-  names-item s t nowhere none (marks_missing id path moment) may = none
-  names-item s t nowhere none (clears_mark id path) may = none
+  names-item s t nowhere none effect may = none
 
   pub names-items : (es : List Effect) (s : State) (t : Tables) → AllMay grace now s es → IsGone n s → named_in t n ≡ 0 → named_in (with_items t (recorded es)) n ≡ 0
   names-items [] s t all gone none = none

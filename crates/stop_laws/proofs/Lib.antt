@@ -7,9 +7,10 @@ pub mod Created
 pub mod RunLaws
 pub mod GivenOut
 mod Spared
-mod AllRows
+pub mod AllRows
 mod Stored
 pub mod Missed
 pub mod Begun
-mod Stores
+pub mod Stores
+pub mod Handed
 pub mod Bytes

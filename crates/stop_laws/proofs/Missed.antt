@@ -39,7 +39,7 @@ use Rattle.stop_laws.proofs.Fronts.{done-fits, done-records, failed-records, leg
 use Rattle.stop_laws.proofs.GivenOut.{names-items, unnamed}
 use Rattle.stop_laws.proofs.RunLaws.{among-finds, finds-more, finds-on}
 use Rattle.stop_laws.proofs.Spared.{none-named, others-whole}
-use Rattle.stop_laws.proofs.Stored.{RowsStored, stays-stored}
+use Rattle.stop_laws.proofs.Stored.{RowsStored, stays-stored, any-list}
 
 -- the tables with what is pending, if anything is
 abbrev Left : (Tables → Type 0) → Tables → Option (List Item) → Type 0
@@ -96,10 +96,6 @@ module _ (settings : Settings) (Ok : Command → Type 0) (Inv : State → Tables
       ])
       (did.passes t next refl refl))
       (finds entries (after settings s e) next mid b legal.1 all.1 then_now then_left did.rests runs)
-
-any-ok : (entries : List Entry) → AllByRecursion (λ (e : Entry). Unit {0}) entries
-any-ok [] = tt
-any-ok (e ∷ entries) = (tt, any-ok entries)
 
 module _ (settings : Settings) where
   legal-behind : (xs ys : List Entry) (s : State) → Legal settings s (xs ++ ys) → Legal settings (end settings s xs) ys
@@ -173,7 +169,7 @@ module _ (settings : Settings) (apart : AreNamedApart settings.hosted) (n : ℕ)
               given-gone settings apart s e n sound.order sound.places legal.0 given,
               unnamed settings apart n s e t sound legal.0 ordered holds is_collect (subst (λ c. is_among n (given_out c e.reply) ≡ true) is_collect given),
             ) in
-            along settings Any Gone stays-gone IsUnnamed is-unnamed entries next there mid new legal.1 (any-ok entries) gone
+            along settings Any Gone stays-gone IsUnnamed is-unnamed entries next there mid new legal.1 (any-list entries) gone
             (subst (Left IsUnnamed there) (sym (settles settings s e n old mid given here)) tt) rest
         | false ↦ λ _ later.
             given-unnamed entries next there mid new sound_then (subst InOrder same made.1) (subst (λ x. Holds x next) same made.2) legal.1 rest later

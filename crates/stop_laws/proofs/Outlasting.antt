@@ -1,34 +1,21 @@
 -- What stands in a state is recorded behind later entries.
-use Rattle.std.proofs.Common.{subst, ◌≡◌, ℕ, true, false, ◌||◌, cond, List, [], ◌∷◌, Some, inl, inr, refl, sym, ap, ◌∙◌}
-use Rattle.std.specs.Prelude.{find, IsTrue}
-use Rattle.std.specs.Option.{option_map, option_map_or}
-use Rattle.std.specs.List.{list_any}
-use Rattle.std.proofs.lemmas.Option.{none-some}
-use Rattle.repo_model.specs.Data.{Blob, Hosted, Row}
+use Rattle.std.proofs.Common.{subst, ◌≡◌, ℕ, List, Some, inl, inr, refl, sym, ap, ◌∙◌}
+use Rattle.std.specs.Option.{option_map}
+use Rattle.repo_model.specs.Data.{Blob, Row}
 use Rattle.repo_model.specs.History.{Entry, Legal, end}
 use Rattle.repo_model.specs.Settings.{Settings}
-use Rattle.repo_model.specs.State.{State, is_repository, row_at, rows_of}
+use Rattle.repo_model.specs.State.{State, row_at, rows_of}
 use Rattle.repo_model.specs.Tables.{Tables}
 use Rattle.repo_laws.specs.Holds.{Holds, InOrder, told, with_items}
 use Rattle.repo_laws.specs.Laws.{without_bytes}
 use Rattle.repo_laws.specs.Sound.{AreNamedApart, IsSound}
 use Rattle.repo_laws.proofs.Holding.{history-recorded}
 use Rattle.repo_laws.proofs.Lasting.{releases-last}
+use Rattle.repo_laws.proofs.HoldingRows.{there-by-row}
 use Rattle.naming_laws.proofs.Kept.{history-stays}
 use Rattle.stop_laws.specs.Found.{IsRecordedAs}
 use Rattle.stop_laws.specs.Stops.{IsLeft, MayNotGo}
 use Rattle.stop_laws.proofs.Fronts.{is-front, may-not-go}
-
--- a repository with a row is there
-there : (repo path : List ℕ) (row : Row) (hosted : List Hosted) → row_at path (option_map_or (λ (h : Hosted). h.rows) (find (is_repository repo) hosted) []) ≡ Some row
-    → IsTrue (list_any (is_repository repo) hosted)
-there repo path row [] is = absurd (none-some row is)
-there repo path row (h ∷ hosted) is =
-    elim (is_repository repo h)
-    as (λ b. row_at path (option_map_or (λ (g : Hosted). g.rows) (cond b (Some h) (find (is_repository repo) hosted)) []) ≡ Some row → IsTrue (b || list_any (is_repository repo) hosted)) [
-      | true ↦ λ _. refl
-      | false ↦ λ got. there repo path row hosted got
-    ] is
 
 -- a row that none of the entries takes away stays, with its blob
 pub row-stays : (settings : Settings) (s : State) (entries : List Entry) (repo path : List ℕ) (row : Row) → AreNamedApart settings.hosted → IsSound settings s → Legal settings s entries
@@ -44,7 +31,7 @@ outlasts settings s t entries repo row apart sound ordered holds legal stays is 
     let held : Holds (with_items t (told settings s entries)) (end settings s entries) =
     (history-recorded settings apart entries s t legal sound.order sound.places sound.sessions ordered holds).2 in (
       without_bytes kept,
-      held.rows repo row.path (there repo row.path kept (end settings s entries).hosted at) ∙ ap (option_map without_bytes) at,
+      held.rows repo row.path (there-by-row repo row.path (end settings s entries).hosted kept at) ∙ ap (option_map without_bytes) at,
       ap (λ (b : Blob). b.number) same,
       ap (λ (b : Blob). b.print) same,
     )

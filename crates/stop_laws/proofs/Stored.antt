@@ -10,7 +10,7 @@ use Rattle.fetch_plan.specs.declared.Outcome.TheVariants.{Got, Gone}
 use Rattle.fetch_plan.specs.declared.Plan.{Plan}
 use Rattle.outside.specs.Blobs.{Shelf}
 use Rattle.repo_model.specs.declared.session.SessionResult.TheVariants.{Aborted}
-use Rattle.repo_model.specs.Command.{Command}
+use Rattle.repo_model.specs.Command.{Command, land}
 use Rattle.repo_model.specs.Data.{Blob, Hosted, Phase, Row, Session, Staged, fading, listed}
 use Rattle.repo_model.specs.Deploy.{deliver_again, deliver_at, deliver_all, discard_all}
 use Rattle.repo_model.specs.Effect.{Effect, creates, stages, delivers, discards, relists, fades, expires, forgets, opens, ends, caches, sessions_after, with_effect, with_effects, with_staged, without_staged, list_again, fade, new_session, items_of, recorded}
@@ -30,7 +30,7 @@ use Rattle.repo_laws.proofs.HoldingOrder.{all-with_recorded}
 use Rattle.repo_laws.proofs.Lists.{all-take}
 use Rattle.repo_laws.proofs.Orderly.{found-has}
 use Rattle.row_tables.specs.Stops.{Rests, Unsettled}
-use Rattle.stop_laws.specs.Found.{AllHandOver, AreStagedStored, AreStored, HandsOver, HasStored, IsAcknowledged, IsStagedStored, IsStored, LandsStored}
+use Rattle.stop_laws.specs.Found.{AllHandOver, AreStagedStored, AreStored, HandsOver, HasStored, IsAcknowledged, IsStagedStored, IsStored}
 use Rattle.stop_laws.specs.Runs.{FindsAlways, IsLeftBySome, StopsAlong, tables_after}
 use Rattle.stop_laws.specs.Stops.{IsFrontOf, IsLeft, as_done, done, front}
 use Rattle.stop_laws.proofs.AllRows.{all-rows, rows-all}
@@ -46,7 +46,7 @@ module _ {X : Type 0} (P : Effect → Type 0) where
   each-flat Q f each [] all = tt
   each-flat Q f each (x ∷ xs) all = all-join P (f x) (flat_map f xs) (each x all.0) (each-flat Q f each xs all.1)
 
-any-list : {X : Type 0} (xs : List X) → AllByRecursion (λ (x : X). Unit {0}) xs
+pub any-list : {X : Type 0} (xs : List X) → AllByRecursion (λ (x : X). Unit {0}) xs
 any-list [] = tt
 any-list (x ∷ xs) = (tt, any-list xs)
 
@@ -122,7 +122,7 @@ module _ (shelf : Shelf) where
   lands-row plan blob now is None = (is, (tt, tt))
   lands-row plan blob now is (Some row) = (tt, gives-up plan.draft)
 
-  lands-stored : (files : List Row) (now : ℕ) (plan : Plan) (outcome : Landing) → LandsStored shelf outcome → AllByRecursion EffectStored (lands_by files now plan outcome)
+  lands-stored : (files : List Row) (now : ℕ) (plan : Plan) (outcome : Landing) → HandsOver shelf (land plan outcome) → AllByRecursion EffectStored (lands_by files now plan outcome)
   lands-stored files now plan (Got (got_file blob)) is = lands-row plan blob now is (row_at plan.path files)
   lands-stored files now plan (Got (got_doc document)) is = (tt, (tt, tt))
   lands-stored files now plan Gone is = (tt, gives-up plan.draft)

@@ -73,7 +73,7 @@ module _ (n : ℕ) where
       let (before, behind) = either-changed calls more there in
       (list_any-append (λ m. m == n) (number_of call) (numbers_changed calls) ∙ or_from (is_among n (number_of call)) (is_among n (numbers_changed calls)) here before, behind)
 
-  all-stay : (calls : List StoreCall) (shelf : Shelf) → is_among n (numbers_changed calls) ≡ false → standing_at n (with_calls shelf calls) ≡ standing_at n shelf
+  pub all-stay : (calls : List StoreCall) (shelf : Shelf) → is_among n (numbers_changed calls) ≡ false → standing_at n (with_calls shelf calls) ≡ standing_at n shelf
   all-stay [] shelf off = refl
   all-stay (call ∷ calls) shelf off =
       let (here, there) = or_parts (is_among n (number_of call)) (is_among n (numbers_changed calls))

@@ -2,16 +2,15 @@
 use Rattle.std.specs.Prelude.{◌≡◌, ℕ, false, List, [], Some, IfSome}
 use Rattle.std.specs.List.{AllByRecursion}
 use Rattle.std.specs.Option.{ForSome}
-use Rattle.fetch_plan.specs.declared.Outcome.TheVariants.{Got}
 use Rattle.outside.specs.Blobs.{Shelf, bytes_at}
-use Rattle.repo_model.specs.Command.{Command, put, stage, land}
+use Rattle.repo_model.specs.Command.{Command}
 use Rattle.repo_model.specs.Data.{Blob, Row, Session, Staged}
-use Rattle.repo_model.specs.Fetched.{Landing, got_file}
 use Rattle.repo_model.specs.History.{Entry}
 use Rattle.repo_model.specs.State.{State, is_among}
 use Rattle.repo_model.specs.Tables.{RecordedRow, recorded_at, Tables}
 use Rattle.blob_audit.specs.Damages.{AreDamaged, IsWhole, print_of}
 use Rattle.blob_audit.specs.Order.{all_rows}
+use Rattle.stop_laws.specs.Handed.{handed}
 
 -- The store was stopped when it told the first shelf, or later, and is found with the second: each blob that was acknowledged has its bytes,
 -- but that those of some numbers may be there or not, as what was removed since. What was being stored then may be there or not.
@@ -42,15 +41,8 @@ abbrev pub AreStagedStored : Shelf → State → Type 0
 AreStagedStored shelf s = AllByRecursion (IsStagedStored shelf) s.sessions
 
 -- the blob that a command hands over, to be put, staged or landed, was acknowledged
-abbrev pub LandsStored : Shelf → Landing → Type 0
-LandsStored shelf (Got (got_file blob)) = IsAcknowledged shelf blob
-LandsStored shelf outcome = Unit {0}
-
 abbrev pub HandsOver : Shelf → Command → Type 0
-HandsOver shelf (put repo path n blob) = IsAcknowledged shelf blob
-HandsOver shelf (stage at path n blob) = IsAcknowledged shelf blob
-HandsOver shelf (land plan outcome) = LandsStored shelf outcome
-HandsOver shelf command = Unit {0}
+HandsOver shelf command = IfSome (handed command) (IsAcknowledged shelf)
 
 abbrev pub AllHandOver : Shelf → List Entry → Type 0
 AllHandOver shelf entries = AllByRecursion (λ (e : Entry). HandsOver shelf e.command) entries

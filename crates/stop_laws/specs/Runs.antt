@@ -62,9 +62,14 @@ IsAnsweredWith settings tells repo row bytes u =
 abbrev pub IsAnsweredAgain : Settings → List ℕ → Row → Tables → Type 0
 IsAnsweredAgain settings repo row u = (tells : ℕ → Option (List ℕ)) → IsAnsweredWith settings tells repo row (tells row.blob.number) u
 
--- and with the bytes that were acknowledged under its number, where the store that is found tells its blobs, and keeps what it acknowledged,
--- but that it may have lost those of some numbers
+-- So with these bytes, where the store that is found tells its blobs, and keeps what it acknowledged, but that it may have lost those of some
+-- numbers.
+abbrev pub IsAnsweredBy : Settings → List ℕ → Shelf → List ℕ → Row → List ℕ → Tables → Type 0
+IsAnsweredBy settings gone acknowledged repo row bytes u =
+    (found : Shelf) → KeepsOthers gone acknowledged found → (tells : ℕ → Option (List ℕ))
+    → ForSome found.blobs (λ them. ((n : ℕ) → tells n ≡ bytes_at n them) → IsAnsweredWith settings tells repo row (Some bytes) u)
+
+-- and with the bytes that were acknowledged under its number
 abbrev pub IsAnsweredWhole : Settings → List ℕ → List ℕ → Row → Tables → Type 0
 IsAnsweredWhole settings gone repo row u =
-    (acknowledged found : Shelf) (bytes : List ℕ) → standing_at row.blob.number acknowledged ≡ Some bytes → KeepsOthers gone acknowledged found
-    → (tells : ℕ → Option (List ℕ)) → ForSome found.blobs (λ them. ((n : ℕ) → tells n ≡ bytes_at n them) → IsAnsweredWith settings tells repo row (Some bytes) u)
+    (acknowledged : Shelf) (bytes : List ℕ) → standing_at row.blob.number acknowledged ≡ Some bytes → IsAnsweredBy settings gone acknowledged repo row bytes u

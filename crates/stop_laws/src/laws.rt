@@ -15,7 +15,7 @@ ghost use Rattle.repo_model.specs.Reply.{collected, created};
 ghost use Rattle.repo_model.specs.History.{Entry, Legal, after, effects_of, end};
 ghost use Rattle.repo_model.specs.Settings.{Settings};
 ghost use Rattle.repo_model.specs.State.{State, files_of, is_among, row_at, rows_of};
-ghost use Rattle.repo_model.specs.Tables.{RecordedRow, Tables};
+ghost use Rattle.repo_model.specs.Tables.{RecordedRow, Tables, names_blob};
 ghost use Rattle.blob_audit.specs.Damages.{AreDamaged};
 ghost use Rattle.proxy_laws.specs.Asked.{AsksFirst, LetsThrough};
 ghost use Rattle.repo_laws.specs.Closed.{Answers, GivesFile, all_given_out};
@@ -23,6 +23,7 @@ ghost use Rattle.repo_laws.specs.Holds.{Holds, InOrder, told, with_items};
 ghost use Rattle.repo_laws.specs.InRange.{InRange, Completes, IsSameBlob};
 ghost use Rattle.repo_laws.specs.Sound.{AreNamedApart, AreProxiesApart, IsSound};
 ghost use Rattle.stop_laws.specs.Found.{AllHandOver, AreStagedStored, AreStored, HasStored, IsCachedAs, IsRecordedAs, IsWholeWithout, KeepsOthers, NameOthers, NamesNone};
+ghost use Rattle.stop_laws.specs.Handed.{AllHandTold, AnyHands, HandOnce, acknowledged_by};
 ghost use Rattle.stop_laws.specs.Stores.{AllStayStored, IsLeftOfStore, MayHaveDone, StoreCall, begins, removes, stores, with_call, with_calls};
 ghost use Rattle.row_tables.specs.Stops.{Rests, Unsettled};
 ghost use Rattle.stop_laws.specs.Runs.{FindsAlways, IsAnsweredAgain, IsAnsweredWhole, IsFoundAgain, IsLeftBySome, StopsAlong, tables_after};
@@ -53,6 +54,16 @@ pub fn stores_do_as_their_clauses_say<B: Blobs>()
 pub fn stops_leave_stored_blobs()
     ensures { (shelf acknowledged found : Shelf) (calls : List StoreCall) (now : StoreCall) (gone : List ℕ) → AllStayStored gone acknowledged shelf calls now
         → IsLeftOfStore gone (with_calls shelf calls) (with_call (with_calls shelf calls) now) found → KeepsOthers gone acknowledged found }
+{}
+
+/// What entries hand over was acknowledged by a store that told its blobs before them and stored each, where each blob tells its bytes, of which
+/// its fingerprint is, and no two have one number: among what it has acknowledged then is each of them, and each that recorded files named
+/// before, where none of the entries hands over a blob of their numbers.
+pub fn handed_blobs_are_acknowledged()
+    ensures handed { (shelf : Shelf) (those : Numbered) (entries : List Entry) → shelf.blobs ≡ Some those → AllHandTold entries → HandOnce entries
+        → AllHandOver (acknowledged_by shelf entries) entries }
+    ensures recorded { (shelf : Shelf) (t : Tables) (entries : List Entry) → ((n : ℕ) → IsTrue (names_blob n t) → ¬ AnyHands n entries) → HasStored shelf t
+        → HasStored (acknowledged_by shelf entries) t }
 {}
 
 /// Whatever a start may find behind a stop, between the calls of a run or in the last of them, is what a legal history records that

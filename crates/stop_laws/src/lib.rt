@@ -8,10 +8,10 @@ mod laws;
 pub use laws::{
     answered_files_have_their_bytes, blobs_given_out_are_named_no_more,
     created_files_are_answered_behind_stops, created_files_outlast_stops_of_runs,
-    files_outlast_stops_of_runs, kept_blobs_are_whole, kept_files_outlast_stops,
-    recorded_files_are_not_given_out, rows_outlast_stops, starts_answer_kept_files,
-    starts_answer_what_is_recorded, starts_stage_nothing, stops_leave_fronts_of_histories,
-    stops_leave_stored_blobs, stops_leave_stored_files, stops_of_runs_find_what_is_left,
-    stops_of_runs_leave_no_file_damaged, stops_of_runs_leave_stored_files,
-    stores_do_as_their_clauses_say, whole_files_are_stored,
+    files_outlast_stops_of_runs, handed_blobs_are_acknowledged, kept_blobs_are_whole,
+    kept_files_outlast_stops, recorded_files_are_not_given_out, rows_outlast_stops,
+    starts_answer_kept_files, starts_answer_what_is_recorded, starts_stage_nothing,
+    stops_leave_fronts_of_histories, stops_leave_stored_blobs, stops_leave_stored_files,
+    stops_of_runs_find_what_is_left, stops_of_runs_leave_no_file_damaged,
+    stops_of_runs_leave_stored_files, stores_do_as_their_clauses_say, whole_files_are_stored,
 };
