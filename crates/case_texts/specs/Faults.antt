@@ -1,5 +1,5 @@
 -- Refusals that name a line.
-use Rattle.std.specs.Prelude.{ℕ, ◌<◌}
+use Rattle.std.specs.Prelude.{◌<◌}
 use Rattle.case_texts.specs.declared.entries.EntriesFault.{EntriesFault}
 use Rattle.case_texts.specs.declared.entries.EntriesFault.TheVariants.{OutOfMemory, NoEntry}
 

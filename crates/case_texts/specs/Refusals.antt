@@ -1,5 +1,5 @@
 -- Refusals of files of cases.
-use Rattle.std.specs.Prelude.{ℕ, ◌<◌, ◌≢◌}
+use Rattle.std.specs.Prelude.{◌<◌, ◌≢◌}
 use Rattle.case_texts.specs.declared.reading.CaseFault.TheVariants.{OutOfMemory}
 use Rattle.case_texts.specs.declared.reading.Refusal.{Refusal}
 

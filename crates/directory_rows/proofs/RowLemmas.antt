@@ -1,10 +1,7 @@
 -- Rows in byte order of path.
-use Rattle.std.proofs.Common.{Bor, ◌≡◌, ℕ, ◌-◌, ◌<◌, ◌≤◌, Bool, true, false, cond, not, ◌&&◌, List, [], ◌∷◌, ◌++◌, filter, length, Option, Some, String, Global, string_bytes, Less, refl, sym, ap, ◌∙◌, subst, arith, length-append}
+use Rattle.std.proofs.Common.{Bor, ◌≡◌, ℕ, ◌-◌, ◌<◌, ◌≤◌, Bool, true, false, cond, ◌&&◌, List, [], ◌∷◌, ◌++◌, filter, length, Option, Some, String, Global, string_bytes, Less, refl, sym, ap, ◌∙◌, subst, arith, length-append}
 use Rattle.std.specs.List.{AllByRecursion}
-use Rattle.std.specs.List.Sorted.{IsStrictlySortedBy}
-use Rattle.std.specs.Map.{keys_of}
 use Rattle.std.specs.Map.Iter.{TakesFirst, deref_pair}
-use Rattle.std.specs.Map.Calls.{RetainsPairs}
 use Rattle.std.specs.Ordering.{is_le}
 use Rattle.std.specs.String.{string_cmp}
 use Rattle.std.specs.BTreeMap.Range.{entries_between}
@@ -15,7 +12,7 @@ use Rattle.std.proofs.lemmas.List.Elements.{filter-append}
 use Rattle.outside.specs.declared.stores.Held.{Ghosts}
 use Rattle.repo_model.specs.Data as plain
 use Rattle.directory_rows.specs.Documents.{rest_from}
-use Rattle.ordered_rows.specs.Rows.{goes, without_first, shown_at, shown_entry, shown_phase, shown_rows}
+use Rattle.ordered_rows.specs.Rows.{shown_at, shown_entry, shown_rows}
 use Rattle.ordered_rows.specs.declared.row.Row.{Row}
 use Rattle.ordered_rows.proofs.Rising.{AreAfter, AreRising}
 use Rattle.directory_rows.proofs.TextLemmas.{cmp, UpTo, UpTo-less, UpTo-trans, UpTo-front, not_before, before_trans}

@@ -1,7 +1,7 @@
 -- The first member that passes a test, by its place.
 use Rattle.std.proofs.Common.{◌≡◌, ℕ, suc, ◌+◌, Bool, true, false, cond, not, List, [], ◌∷◌, map, length, Option, Some, None, option_map, refl, sym, ◌∙◌, ap, ltb, arith}
 use Rattle.std.proofs.lemmas.Bool.{le-ltb, lt-ltb, ltb_from_iff, ltb-true}
-use Rattle.std.specs.Prelude.{find, slice_get}
+use Rattle.std.specs.Prelude.{find}
 use Rattle.std.specs.List.{position, position_or_len}
 use Rattle.repo_model.specs.Turn.{Seen, is_file, is_text, is_doc, is_nothing, is_to_fetch, is_blocked, is_negative, is_never, first_or, fetches_one, serves_or_fetches}
 use Rattle.group_view.specs.Members.{earlier, fetches, next, serves}

@@ -1,5 +1,5 @@
 -- What a shelf has at a path, once its map has changed at one.
-use Rattle.std.proofs.Common.{◌≡◌, ℕ, Bool, true, false, cond, List, Option, Some, None, option_map, String, Global, string_bytes, bytes_eq, nat_cmp, refl, sym, ap, ◌∙◌}
+use Rattle.std.proofs.Common.{◌≡◌, ℕ, true, false, cond, List, Option, option_map, String, Global, string_bytes, bytes_eq, nat_cmp, refl, sym, ap, ◌∙◌}
 use Rattle.std.proofs.lemmas.Bool.{both_ways, false_from_ne_true}
 use Rattle.std.proofs.lemmas.Map.Text.{btree_map_updates_text}
 use Rattle.std.proofs.lemmas.Slice.Eq.{bytes_eq-Decides}

@@ -1,19 +1,17 @@
 -- The documents that deployed files make, one after the other.
-use Rattle.std.proofs.Common.{◌≡◌, ℕ, Bool, true, false, cond, List, [], ◌∷◌, ◌++◌, Option, Some, None, bytes_eq, Ordering, Less, Equal, Greater, is_eq, nat_cmp, refl, sym, ◌∙◌, ap, subst}
+use Rattle.std.proofs.Common.{◌≡◌, ℕ, true, false, cond, List, [], ◌∷◌, ◌++◌, Option, Some, None, bytes_eq, Less, Equal, Greater, is_eq, nat_cmp, refl, sym, ◌∙◌, ap}
 use Rattle.std.specs.Cmp.Lexicographic.{nat_list_cmp_total, slice_cmp}
-use Rattle.std.specs.List.{AllByRecursion, flat_map}
+use Rattle.std.specs.List.{AllByRecursion}
 use Rattle.std.specs.Ordering.{match_ordering, ordering_reverse}
 use Rattle.std.proofs.lemmas.Option.{none-some}
 use Rattle.std.proofs.lemmas.Slice.Eq.{bytes_eq-Decides}
 use Rattle.mvn_coords.specs.Layout.{Directory}
 use Rattle.mvn_metadata.specs.Document.{Document}
-use Rattle.repo_model.specs.Data as plain
-use Rattle.repo_model.specs.Data.{Phase, Row, Session, Staged, fading, listed}
+use Rattle.repo_model.specs.Data.{Row, Session, Staged, fading, listed}
 use Rattle.repo_model.specs.Deploy.{deliver_again, deliver_at}
 use Rattle.repo_model.specs.Document.{document}
 use Rattle.repo_model.specs.Effect.{Effect, list_again, new_row, with_row}
 use Rattle.repo_model.specs.State.{change_where, is_row, row_at}
-use Rattle.directory_rows.specs.Documents.{added}
 use Rattle.ordered_rows.specs.Rows.{rows_after_all}
 use Rattle.ordered_rows.proofs.EachRow.{each-changed, each-with}
 use Rattle.ordered_rows.proofs.MapLemmas.{same_test}

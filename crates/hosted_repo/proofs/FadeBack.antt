@@ -1,5 +1,5 @@
 -- Rows that fade and are visible again as they were; the documents of directories where none of them is.
-use Rattle.std.proofs.Common.{◌≡◌, ℕ, ◌≤◌, Bool, true, false, cond, ◌||◌, ◌&&◌, List, [], ◌∷◌, filter, map, take, Option, Some, None, String, Global, string_bytes, bytes_eq, Less, is_eq, refl, sym, ◌∙◌, ap, subst, zero, suc}
+use Rattle.std.proofs.Common.{◌≡◌, ℕ, Bool, true, false, cond, ◌||◌, ◌&&◌, List, [], ◌∷◌, filter, map, take, Some, String, Global, string_bytes, bytes_eq, is_eq, refl, sym, ◌∙◌, ap, zero, suc}
 use Rattle.std.specs.List.{AllByRecursion, list_any}
 use Rattle.std.specs.Option.{option_map_or}
 use Rattle.std.proofs.lemmas.Bool.{and_parts, false_from_ne_true}
@@ -7,7 +7,7 @@ use Rattle.std.proofs.lemmas.Slice.Eq.{bytes_eq-Decides}
 use Rattle.mvn_coords.specs.Layout.{Directory}
 use Rattle.repo_model.specs.Data.{Phase, Row, fading, listed}
 use Rattle.repo_model.specs.Document.{document, is_listed}
-use Rattle.repo_model.specs.Effect.{fade, fades, list_again}
+use Rattle.repo_model.specs.Effect.{fade, list_again}
 use Rattle.repo_model.specs.Paths.{file_at}
 use Rattle.repo_model.specs.Purge.{due_rows, is_due_at, most_rows}
 use Rattle.repo_model.specs.Settings.{Rule}

@@ -1,7 +1,6 @@
 -- What is drafted as paths are walked to, and what it leaves.
-use Rattle.std.proofs.Common.{◌≡◌, ℕ, Bool, true, false, List, [], ◌∷◌, ◌++◌, Option, Some, None, String, Global, string_bytes, refl, sym, ◌∙◌, ap}
+use Rattle.std.proofs.Common.{◌≡◌, ℕ, true, false, List, [], ◌∷◌, ◌++◌, Some, None, String, Global, string_bytes, refl, sym, ◌∙◌, ap}
 use Rattle.std.specs.Prelude.{IsSome, is_some}
-use Rattle.std.specs.List.{AllByRecursion}
 use Rattle.mvn_coords.specs.Layout.{Directory, text_of_directory}
 use Rattle.mvn_coords.specs.Path.{IsDirectory}
 use Rattle.repo_model.specs.Paths.{file_at, stands_in}

@@ -1,11 +1,8 @@
 -- Rows at paths of files: they stay so, and what is recorded of them makes a change.
 use native.Mathlib.Omega.{arith}
 use Rattle.std.proofs.Common.{◌≡◌, ℕ, ◌-◌, ◌<◌, ◌≤◌, Bool, true, false, cond, ◌&&◌, List, [], ◌∷◌, ◌++◌, length, map, take, zero, suc, refl, sym, ap, subst, leb, length-append}
-use Rattle.std.specs.Prelude.{filter, IsTrue, OnErr, OnOk, Result, Ok, Err}
+use Rattle.std.specs.Prelude.{filter, OnErr, OnOk, Result, Ok, Err}
 use Rattle.std.specs.List.{AllByRecursion, list_all}
-use Rattle.std.specs.Ordering.{match_ordering, nat_cmp}
-use Rattle.std.specs.declared.cmp.Ordering.TheVariants.{Less, Equal, Greater}
-use Rattle.std.specs.Cmp.Lexicographic.{slice_cmp}
 use Rattle.std.proofs.lemmas.Bool.{and_parts, le-leb, leb-true, leb-false}
 use Rattle.std.proofs.lemmas.List.{length-take, take-map}
 use Rattle.repo_model.specs.Data as plain
@@ -13,7 +10,7 @@ use Rattle.repo_model.specs.declared.item.Item.{Item}
 use Rattle.repo_model.specs.declared.print.Print.{Print}
 use Rattle.repo_model.specs.declared.item.Item.TheVariants.{HostedPut, Faded, Relisted, Removed, CachedFile, CachedDoc, SessionOpened, SessionEnded, Digested}
 use Rattle.repo_model.specs.Document.{is_listed}
-use Rattle.repo_model.specs.Effect.{Effect, expires, fade, fades, list_again, recorded, with_row}
+use Rattle.repo_model.specs.Effect.{Effect, expires, fade, fades, recorded}
 use Rattle.repo_model.specs.History.{latest_moment}
 use Rattle.repo_model.specs.Paths.{file_at}
 use Rattle.repo_model.specs.Prints.{recorded_print}

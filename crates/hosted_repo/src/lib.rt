@@ -1,4 +1,4 @@
-//! A hosted repository: its rows, what they answer, and what changes them, which is recorded first.
+//! A hosted repository: its rows, what they answer, and what changes them, which stands once it is recorded.
 #![tactic(auto)]
 
 mod builder;

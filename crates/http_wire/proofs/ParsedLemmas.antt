@@ -10,7 +10,7 @@ use Rattle.httparse.specs.declared.Status.TheVariants.{Complete, Partial}
 use Rattle.httparse.specs.declared.spans.HeaderSpan.{HeaderSpan}
 use Rattle.httparse.specs.declared.spans.RequestSpans.{RequestSpans}
 use Rattle.httparse.specs.Grammar as grammar
-use Rattle.httparse.specs.Grammar.{IsField, IsToken, LineEnd, crlf, lf, ReadsRequest, RequestHead, is_token_byte, print_blank, print_request}
+use Rattle.httparse.specs.Grammar.{IsToken, LineEnd, crlf, lf, ReadsRequest, RequestHead, is_token_byte, print_blank, print_request}
 use Rattle.httparse.specs.Outcome.{IsCompleteAnd}
 use Rattle.httparse.specs.Spans.{FindsRequest, IsRequestAt, header_bytes, name_and_value, span_bytes}
 use Rattle.httparse.specs.Pieces.{Stops, is_newline}

@@ -10,7 +10,7 @@ use Rattle.std.proofs.lemmas.Slice.Eq.{bytes_eq-Decides}
 use Rattle.std.proofs.lemmas.Str.{IsUtf8-from_is_utf8, is_utf8-from_IsUtf8}
 use Rattle.std.specs.List.{flat_map}
 use Rattle.httparse.specs.Grammar as grammar
-use Rattle.httparse.specs.Grammar.{AllPass, IsField, IsRequestHead, IsToken, LineEnd, crlf, lf, ReadsRequest, RequestHead, is_token, is_token_byte, is_uri_byte, is_value_byte, print_end, print_field, print_request, print_section, print_version}
+use Rattle.httparse.specs.Grammar.{IsField, IsRequestHead, IsToken, LineEnd, crlf, lf, ReadsRequest, RequestHead, is_token, is_token_byte, is_uri_byte, is_value_byte, print_end, print_field, print_request, print_section, print_version}
 use Rattle.httparse.proofs.GrammarLemmas.{print_request-append}
 use Rattle.httparse.proofs.PieceLemmas.{Stops_token, colon_ends_token, print_field-append, space_ends_token}
 use Rattle.httparse.specs.Pieces.{Stops, is_newline}

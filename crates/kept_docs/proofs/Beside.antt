@@ -1,18 +1,18 @@
 -- When the document of a directory stays as rows change, and what it becomes by one more visible row.
-use Rattle.std.proofs.Common.{◌≡◌, ℕ, ◌-◌, Bool, true, false, cond, not, ◌&&◌, List, [], ◌∷◌, filter, Option, Some, None, unwrap_or, refl, sym, ap, ◌∙◌, Less, Equal, Greater}
+use Rattle.std.proofs.Common.{◌≡◌, ℕ, ◌-◌, true, false, cond, ◌&&◌, List, [], ◌∷◌, Some, unwrap_or, refl, sym, ap, ◌∙◌, Less, Equal, Greater}
 use Rattle.std.specs.Cmp.Lexicographic.{slice_cmp}
 use Rattle.std.specs.Ordering.{match_ordering, nat_cmp}
 use Rattle.std.proofs.lemmas.Slice.Eq.{bytes_eq-Decides}
 use Rattle.std.specs.Prelude.{bytes_eq, nat_lt}
 use Rattle.mvn_coords.specs.Layout.{Directory}
-use Rattle.mvn_metadata.specs.Document.{Document, settled, blank}
+use Rattle.mvn_metadata.specs.Document.{settled, blank}
 use Rattle.repo_model.specs.Data.{Row, Phase, listed, fading}
 use Rattle.repo_model.specs.Document.{is_listed, listed_in, described, document}
 use Rattle.repo_model.specs.Effect.{list_again, new_row, with_row}
 use Rattle.repo_model.specs.Paths.{file_at, stands_in}
 use Rattle.repo_model.specs.State.{change_where, is_row, row_at}
 use Rattle.directory_rows.specs.Documents.{added, with_listed}
-use Rattle.ordered_rows.specs.Rows.{goes, is_before, without_first}
+use Rattle.ordered_rows.specs.Rows.{goes, without_first}
 use Rattle.ordered_rows.proofs.Rising.{AreRising}
 use Rattle.std.proofs.lemmas.Bool.{and_right}
 use Rattle.kept_docs.proofs.Moved.{counts, one_more, with_again, with_one}

@@ -1,5 +1,5 @@
 -- Documents that change in their places, and what undoes that.
-use Rattle.std.proofs.Common.{◌≡◌, ℕ, true, false, cond, List, Option, None, bytes_eq, refl, ap, ◌∙◌}
+use Rattle.std.proofs.Common.{◌≡◌, ℕ, false, cond, List, Option, None, bytes_eq, refl, ap, ◌∙◌}
 use Rattle.std.proofs.lemmas.Bool.{false_from_ne_true}
 use Rattle.std.proofs.lemmas.Slice.Eq.{bytes_eq-Decides}
 use Rattle.mvn_metadata.specs.Document.{Document}

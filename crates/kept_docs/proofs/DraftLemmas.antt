@@ -1,5 +1,5 @@
 -- Drafts with a file more, or with what the rows have.
-use Rattle.std.proofs.Common.{◌≡◌, ℕ, Bool, true, false, cond, List, [], ◌∷◌, ◌++◌, Option, Some, None, unwrap_or, bytes_eq, refl, sym, ap, ◌∙◌, subst}
+use Rattle.std.proofs.Common.{◌≡◌, ℕ, true, false, cond, List, ◌∷◌, ◌++◌, Option, Some, None, unwrap_or, bytes_eq, refl, sym, ap, ◌∙◌, subst}
 use Rattle.std.specs.Prelude.{IsSome, codes, is_some, Result, Ok}
 use Rattle.std.proofs.lemmas.Slice.Eq.{bytes_eq-Decides}
 use Rattle.mvn_coords.specs.FileName.{is_filled}
@@ -13,13 +13,13 @@ use Rattle.mvn_metadata.specs.Document.{Document, blank, settled}
 use Rattle.repo_model.specs.Data.{Blob, Row}
 use Rattle.repo_model.specs.Document.{document, with_coordinates}
 use Rattle.repo_model.specs.Effect.{new_row}
-use Rattle.repo_model.specs.Paths.{file_at, file_in, stands_in}
+use Rattle.repo_model.specs.Paths.{file_in, stands_in}
 use Rattle.directory_rows.specs.Documents.{added}
 use Rattle.kept_docs.specs.declared.docs.Docs.{Docs}
 use Rattle.kept_docs.specs.declared.drafts.Drafts.{Drafts}
-use Rattle.kept_docs.specs.Drafted.{AreRight, HasDraftMore, HasFileMore, HasWalked, IsDraftedAt, KeepsDrafts, draft_at, drafted, with_file_of}
+use Rattle.kept_docs.specs.Drafted.{AreRight, HasDraftMore, HasFileMore, HasWalked, IsDraftedAt, draft_at, drafted, with_file_of}
 use Rattle.kept_docs.specs.Kept.{kept_at}
-use Rattle.kept_docs.proofs.Homes.{IsHome, added_once, added_row, artifact_document, at_one, is_home, version_document}
+use Rattle.kept_docs.proofs.Homes.{added_once, added_row, artifact_document, at_one, is_home, version_document}
 use Rattle.kept_docs.proofs.Texts.{no_document, same_directory}
 
 -- ---- a test of two texts

@@ -1,17 +1,11 @@
 -- The directories in which a file stands: its artifact's and its version's, told by the paths of their documents.
-use Rattle.std.proofs.Common.{◌≡◌, ℕ, ◌+◌, Bool, true, false, cond, ◌&&◌, List, [], ◌∷◌, ◌++◌, length, length-append, Option, Some, None, unwrap_or, Result, Ok, refl, sym, ap, ◌∙◌, subst, arith, bytes_eq}
+use Rattle.std.proofs.Common.{◌≡◌, ℕ, ◌+◌, Bool, true, false, cond, ◌&&◌, List, ◌∷◌, ◌++◌, length, length-append, Option, Some, None, unwrap_or, refl, sym, ap, ◌∙◌, arith, bytes_eq}
 use Rattle.std.proofs.lemmas.Bool.{and_parts, false_from_ne_true}
 use Rattle.std.proofs.lemmas.List.{append-nil}
 use Rattle.std.proofs.lemmas.Slice.Eq.{bytes_eq-Decides}
 use Rattle.std.specs.Prelude.{codes}
 use Rattle.mvn_coords.specs.FileName.{is_filled}
-use Rattle.mvn_coords.specs.Kind.{kind}
-use Rattle.mvn_coords.specs.Layout.{Coordinates, Directory, artifact_directory_of, below_group, text_of_directory, text_of_document, version_directory_of, version_part}
-use Rattle.mvn_coords.specs.Path.{IsDirectory}
-use Rattle.mvn_coords.specs.declared.fault.PathFault.{PathFault}
-use Rattle.mvn_coords.specs.declared.kind.Kind.{Kind}
-use Rattle.mvn_coords.specs.declared.kind.Kind.TheVariants.{Doc}
-use Rattle.mvn_coords.proofs.ExactPaths.{kind_of_document}
+use Rattle.mvn_coords.specs.Layout.{Coordinates, Directory, artifact_directory_of, below_group, text_of_document, version_directory_of, version_part}
 use Rattle.mvn_metadata.specs.Document.{Document, blank, settled}
 use Rattle.repo_model.specs.Data.{Blob}
 use Rattle.repo_model.specs.Document.{with_coordinates}

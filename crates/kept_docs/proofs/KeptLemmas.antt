@@ -1,8 +1,7 @@
 -- Documents that are kept are those of the rows, as these change.
-use Rattle.std.proofs.Common.{◌≡◌, ℕ, List, Option, Some, None, unwrap_or, refl, sym, ap, ◌∙◌}
+use Rattle.std.proofs.Common.{◌≡◌, ℕ, List, Some, None, unwrap_or, refl, sym, ap, ◌∙◌}
 use Rattle.mvn_coords.specs.Layout.{Directory, text_of_directory}
 use Rattle.mvn_coords.specs.Path.{IsDirectory}
-use Rattle.mvn_metadata.specs.Document.{Document}
 use Rattle.repo_model.specs.Data.{Blob, Row, fading}
 use Rattle.repo_model.specs.Document.{document}
 use Rattle.repo_model.specs.Effect.{list_again, new_row, with_row}

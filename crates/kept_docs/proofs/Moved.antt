@@ -1,17 +1,15 @@
 -- What one more visible row adds to the document of its directory, wherever it stands among the others.
-use Rattle.std.proofs.Common.{◌≡◌, ℕ, ◌<◌, Bool, true, false, cond, ◌&&◌, List, [], ◌∷◌, ◌++◌, fold, filter, length, refl, sym, ap, ◌∙◌, subst, arith, Option, Some, None, unwrap_or, is_eq, bytes_eq}
+use Rattle.std.proofs.Common.{◌≡◌, ℕ, Bool, true, false, cond, ◌&&◌, List, [], ◌∷◌, ◌++◌, fold, refl, sym, ap, ◌∙◌, subst, Option, Some, None, unwrap_or, is_eq, bytes_eq}
 use Rattle.std.proofs.lemmas.Bool.{and_parts}
 use Rattle.std.proofs.lemmas.Option.{none-some}
 use Rattle.std.proofs.lemmas.Slice.Eq.{bytes_eq-Decides}
 use Rattle.std.specs.Prelude.{is_some}
-use Rattle.std.specs.BTreeMap.{insert_entry, is_at}
 use Rattle.std.specs.BTreeSet.{insert_key}
 use Rattle.std.specs.Cmp.{IsTotalOrder}
 use Rattle.std.specs.Cmp.Lexicographic.{slice_cmp}
 use Rattle.std.specs.FinMap.{nat_cmp-IsAntisymmetric}
 use Rattle.std.specs.FinMap.Entries.{is_sorted}
 use Rattle.std.specs.List.{AllByRecursion}
-use Rattle.std.specs.Map.{lookup}
 use Rattle.std.specs.Ordering.{match_ordering, nat_cmp, ordering_reverse, ordering_then, is_lt}
 use Rattle.std.specs.declared.cmp.Ordering.{Ordering}
 use Rattle.std.specs.declared.cmp.Ordering.TheVariants.{Less, Equal, Greater}
@@ -23,7 +21,7 @@ use Rattle.mvn_version.specs.Laws.{list_cmp_total, list_cmp_ties}
 use Rattle.mvn_version.specs.Order.{list_cmp}
 use Rattle.mvn_metadata.specs.declared.listing.Listing.{Listing}
 use Rattle.mvn_metadata.specs.declared.listing.Listing.TheVariants.{Artifact, Snapshot}
-use Rattle.mvn_metadata.specs.Document.{Document, blank, greatest, latest_time, newest_build, of_kind, settled}
+use Rattle.mvn_metadata.specs.Document.{Document, blank, greatest, latest_time, of_kind, settled}
 use Rattle.mvn_metadata.specs.Form.{is_rising}
 use Rattle.mvn_metadata.specs.Merge.{Entry, is_newer, with_entries, with_entry, with_versions}
 use Rattle.mvn_metadata.specs.Order.{build_cmp, build_cmp_total, pair_cmp, pair_cmp_total, time_cmp, time_cmp_total}

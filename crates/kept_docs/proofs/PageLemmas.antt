@@ -1,5 +1,5 @@
 -- Pages: the room for them, what is found among them, and how they are placed.
-use Rattle.std.proofs.Common.{◌≡◌, ℕ, Bool, true, false, cond, List, [], ◌∷◌, ◌++◌, Option, Some, None, option_map, unwrap_or, String, Global, string_bytes, bytes_eq, nat_cmp, refl, sym, ap, ◌∙◌, subst}
+use Rattle.std.proofs.Common.{◌≡◌, ℕ, true, false, cond, List, [], ◌∷◌, ◌++◌, Option, Some, None, unwrap_or, String, Global, string_bytes, bytes_eq, nat_cmp, refl, sym, ap, ◌∙◌, subst}
 use Rattle.std.specs.Prelude.{IsSome, is_some}
 use Rattle.std.proofs.lemmas.Map.Text.{btree_map_updates_text}
 use Rattle.std.proofs.lemmas.Slice.Eq.{bytes_eq-Decides}
@@ -111,10 +111,6 @@ abbrev pub first : {A : Type 0} → Option A → Option A → Option A
 first None o = o
 first (Some x) o = Some x
 
-first-none : {A : Type 0} (o : Option A) → first o None ≡ o
-first-none None = refl
-first-none (Some x) = refl
-
 abbrev pub found : List ℕ → List (String Global × Option Document) → Option (Option Document)
 found text es = lookup (is_at (λ k. slice_cmp nat_cmp text (string_bytes k))) es
 
@@ -129,6 +125,3 @@ first-more text (p ∷ pages) page e es path doc =
       | true ↦ refl
       | false ↦ first-more text pages page e es path doc
     ]
-
-pub first-all : (text : List ℕ) (pages : List Page) (es all : List (String Global × Option Document)) → es ≡ [] → first (page_at text pages) (found text es) ≡ found text all → page_at text pages ≡ found text all
-first-all text pages es all none is = sym (first-none (page_at text pages)) ∙ ap (λ xs. first (page_at text pages) (found text xs)) (sym none) ∙ is

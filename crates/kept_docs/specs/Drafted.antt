@@ -1,5 +1,5 @@
 -- Documents that are to be, beside those that are kept.
-use Rattle.std.specs.Prelude.{◌≡◌, ℕ, if◌then◌else◌, bytes_eq, true, List, Option, Some, None, IsSome, unwrap_or}
+use Rattle.std.specs.Prelude.{◌≡◌, ℕ, if◌then◌else◌, bytes_eq, true, List, Option, Some, IsSome, unwrap_or}
 use Rattle.std.specs.BTreeMap.{get_by_text}
 use Rattle.mvn_coords.specs.Layout.{Coordinates, Directory, text_of_directory, text_of_document}
 use Rattle.mvn_coords.specs.Path.{IsDirectory}

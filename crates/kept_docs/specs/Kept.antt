@@ -1,5 +1,5 @@
 -- Documents that are kept by the paths of their directories.
-use Rattle.std.specs.Prelude.{◌≡◌, ℕ, List, Option, Some, None, String}
+use Rattle.std.specs.Prelude.{◌≡◌, ℕ, List, Option, Some, None}
 use Rattle.std.specs.BTreeMap.{get_by_text}
 use Rattle.std.specs.Option.{option_map}
 use Rattle.mvn_coords.specs.Layout.{Directory, text_of_directory}

@@ -12,23 +12,23 @@ use Rattle.kept_docs.specs.declared.changing.RowChange.{RowChange}
 use Rattle.kept_docs.specs.declared.docs.Docs.{Docs}
 use Rattle.kept_docs.specs.Kept.{kept_at}
 
--- a document without one more version
-abbrev pub without_version : Document → Undo → Document
-without_version doc undo = record doc { listing = undone doc.listing undo }
+-- a document as it was before one more version
+abbrev pub as_before : Document → Undo → Document
+as_before doc undo = record doc { listing = undone doc.listing undo }
 
 -- the document of a directory before it changed, by the one that it has now
 abbrev pub document_before : Before → Option Document → Option Document
 document_before Nothing now = None
 document_before (Other kept) now = Some kept.doc
 document_before (Shorter undo text digests) None = None
-document_before (Shorter undo text digests) (Some doc) = Some (without_version doc undo)
+document_before (Shorter undo text digests) (Some doc) = Some (as_before doc undo)
 
 -- the text and the digests that are kept are those of the document before
 abbrev pub IsBefore : Before → Option Document → Type 0
 IsBefore Nothing now = Unit {0}
 IsBefore (Other kept) now = IsSome now
 IsBefore (Shorter undo text digests) None = ⊥
-IsBefore (Shorter undo text digests) (Some doc) = (text ≡ form.text (without_version doc undo)) × (digests ≡ digests_of text)
+IsBefore (Shorter undo text digests) (Some doc) = (text ≡ form.text (as_before doc undo)) × (digests ≡ digests_of text)
 
 -- documents by the paths of their directories, without a change
 abbrev pub without_change : Option Change → (List ℕ → Option Document) → List ℕ → Option Document

@@ -13,7 +13,7 @@ ghost use Rattle.repo_model.specs.Paths.{stands_in};
 ghost use Rattle.directory_rows.specs.Documents.{added};
 ghost use Rattle.kept_docs.specs.Drafted.{HasFileMore, with_file_of};
 ghost use Rattle.kept_docs.specs.Kept.{AreSame, document_in, kept_at};
-ghost use Rattle.kept_docs.specs.Undone.{CanUndo, CanUndoRow, IsBefore, IsUndo, IsUndoOfRow, document_before, kept_before, without_change, without_version};
+ghost use Rattle.kept_docs.specs.Undone.{CanUndo, CanUndoRow, IsBefore, IsUndo, IsUndoOfRow, document_before, kept_before, without_change, as_before};
 
 use crate::docs::Docs;
 use crate::drafts::{artifact_document, version_document};
@@ -35,7 +35,7 @@ pub(crate) enum Before {
     Nothing,
     /// Another one, which was kept.
     Other(WrittenDoc),
-    /// The same without a version, with its text and digests.
+    /// The same without a version, or with an earlier moment of change, with its text and digests.
     Shorter {
         undo: Undo,
         text: SharedBytes,
@@ -219,9 +219,9 @@ fn change_at(
 
 // The document without a version, as it was written before.
 fn shorter(kept: WrittenDoc, undo: &Undo, text: SharedBytes, digests: Digests) -> WrittenDoc
-    requires text { text ≡ form.text (without_version kept.doc undo.now) }
+    requires text { text ≡ form.text (as_before kept.doc undo.now) }
     requires digests { digests ≡ digests_of text }
-    ensures { result.doc ≡ without_version kept.doc undo.now }
+    ensures { result.doc ≡ as_before kept.doc undo.now }
 {
     let WrittenDoc { doc, .. } = kept;
     let mut doc = doc;

@@ -1,5 +1,5 @@
-//! The documents of directories, kept as they are written: a visible row adds to those of its directories, and what is written anew
-//! takes the place of the old at once, without memory.
+//! The documents of directories, kept as they are written: a visible row changes those of its directories in their places, which can be
+//! undone without memory; and what several rows write anew takes the place of the old at once, without memory.
 #![tactic(auto)]
 
 mod changing;

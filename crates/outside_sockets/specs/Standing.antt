@@ -5,7 +5,7 @@ use Rattle.outside_sockets.specs.declared.choice.Rank.TheVariants.{Silent, Heard
 use Rattle.outside_sockets.specs.declared.room.State.{State}
 use Rattle.outside_sockets.specs.declared.room.State.TheVariants.{New, Heading, Idle, Closing}
 
--- a new one is silent, but where bytes of it lie unread
+-- a new one may be silent, or bytes of it may lie unread
 abbrev pub StandsAs : State → Rank → Type 0
 StandsAs New rank = (rank ≡ Silent) ⊎ (rank ≡ Heard)
 StandsAs Heading rank = rank ≡ Heard

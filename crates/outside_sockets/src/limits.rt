@@ -2,8 +2,8 @@
 use std::time::Duration;
 
 /// How many connections are open at most: 900 that are idle, and one for each desk. One more closes one: of those of which no byte
-/// has come since they were accepted the oldest, and only where there is none of these the one that has been idle longest. The
-/// usual limit of a process is 1,024 descriptors.
+/// has come since they were accepted the oldest; where there is none of these, the one that has waited longest for its next request
+/// or for the rest of a head; and last those that are being closed. The usual limit of a process is 1,024 descriptors.
 pub const MOST_OPEN: u64 = 904;
 
 /// How many places there are for connections that no desk has: one for each number of a descriptor.

@@ -168,7 +168,7 @@ impl<N: OpenStream + Drop> Room<N> {
         first
     }
 
-    /// The one that goes first, which is kept no longer.
+    /// The one that goes first, which is kept no longer; none where a desk has taken it meanwhile.
     pub fn take_first<W: Wait>(&self, waits: &W) -> Option<Kept<N>> {
         let first = self.first_to_go(waits)?;
         self.places.get(first.number)?.lock(waits).take()

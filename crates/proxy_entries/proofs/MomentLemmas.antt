@@ -1,5 +1,5 @@
 -- The moments of marks.
-use Rattle.std.proofs.Common.{◌≡◌, ℕ, ◌≤◌, Bool, true, false, cond, not, List, [], ◌∷◌, length, fold, Option, Some, None, option_map, sym, subst, leb}
+use Rattle.std.proofs.Common.{◌≡◌, ℕ, ◌≤◌, true, false, cond, not, List, [], ◌∷◌, length, fold, Option, Some, None, option_map, sym, subst, leb}
 use Rattle.std.specs.Prelude.{IfSome, find}
 use Rattle.std.specs.Cmp.Lexicographic.{slice_cmp}
 use Rattle.std.specs.Ordering.{match_ordering, nat_cmp}

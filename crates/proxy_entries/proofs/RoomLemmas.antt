@@ -1,6 +1,6 @@
 -- Room for a mark: of as many marks as may be the oldest goes.
 use native.Mathlib.Omega.{arith}
-use Rattle.std.proofs.Common.{◌≡◌, ℕ, suc, ◌+◌, ◌<◌, ◌≤◌, Bool, true, false, cond, not, ◌||◌, List, [], ◌∷◌, length, Option, Some, None, fold, is_eq, refl, sym, ◌∙◌, ap, subst, leb, bytes_eq}
+use Rattle.std.proofs.Common.{◌≡◌, ℕ, suc, ◌<◌, ◌≤◌, true, false, cond, not, ◌||◌, List, [], ◌∷◌, length, Option, Some, None, fold, refl, sym, ◌∙◌, ap, subst, leb, bytes_eq}
 use Rattle.std.proofs.lemmas.Bool.{false≢true, leb-true, leb-false, le-leb}
 use Rattle.std.proofs.lemmas.Option.{none-some}
 use Rattle.std.proofs.lemmas.Slice.Eq.{bytes_eq-Decides}

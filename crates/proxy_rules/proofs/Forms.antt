@@ -1,16 +1,14 @@
 -- What is recorded of what a proxy keeps makes a change.
 use native.Mathlib.Omega.{arith}
-use Rattle.std.proofs.Common.{◌≡◌, ℕ, ◌+◌, ◌<◌, ◌≤◌, Bool, true, false, cond, List, [], ◌∷◌, ◌++◌, length, Option, Some, None, Result, Ok, Err, refl, sym, ◌∙◌, ap, eqb, ltb, leb, length-append, bytes_eq}
+use Rattle.std.proofs.Common.{◌≡◌, ℕ, ◌+◌, ◌<◌, ◌≤◌, Bool, true, false, cond, List, [], ◌∷◌, ◌++◌, length, Option, Some, None, Result, Ok, Err, refl, sym, ◌∙◌, ap, eqb, ltb, leb, length-append}
 use Rattle.std.specs.Prelude.{IfSome, codes, is_some}
 use Rattle.std.specs.Int.{w16, w32, w64, to_be_bytes}
-use Rattle.std.specs.List.{flat_map}
 use Rattle.std.proofs.lemmas.Bool.{and_from, and_parts, eqb-true, false≢true, le-leb, leb-true, ltb-false}
 use Rattle.std.proofs.lemmas.Slice.Eq.{bytes_eq-Decides}
 use Rattle.mvn_coords.proofs.Judged.{kind_long}
 use Rattle.mvn_coords.specs.Kind.{kind}
 use Rattle.mvn_coords.specs.Layout.{Directory, below_group, text_of_directory, text_of_document, version_part}
 use Rattle.mvn_coords.specs.Path.{IsDirectory, parts_of}
-use Rattle.mvn_coords.specs.FileName.{is_filled}
 use Rattle.mvn_coords.specs.Path.{Parts}
 use Rattle.mvn_coords.specs.declared.fault.PathFault.{PathFault}
 use Rattle.mvn_coords.specs.declared.fault.PathFault.TheVariants as fault
@@ -25,7 +23,6 @@ use Rattle.repo_model.specs.State.{number_end}
 use Rattle.repo_model.specs.declared.item.Item.TheVariants.{CachedDoc, CachedFile}
 use Rattle.repo_model.specs.declared.print.Print.{Print}
 use Rattle.row_tables.specs.Items.{IsChange, directory_at, directory_in, document_bytes, is_count, is_file_path, is_id, is_item, is_kept_in, is_number, item_bytes, place_bytes, text_bytes}
-use Rattle.ordered_rows.specs.Recording.{IsShort}
 use Rattle.ordered_rows.proofs.ChangeLemmas.{AreDigests, change-of, moment-so, put-short}
 
 -- a file that is kept

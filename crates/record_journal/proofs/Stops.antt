@@ -1,5 +1,5 @@
 -- A commit leaves what a stop before it or behind it leaves; between calls that is the tables, or these with what is pending.
-use Rattle.std.proofs.Common.{◌≡◌, ◌⊎◌, ℕ, List, [], ◌∷◌, ◌++◌, Option, Some, None, Result, Ok, Err, inl, inr, refl, sym, subst, ap, ◌∙◌}
+use Rattle.std.proofs.Common.{◌≡◌, ◌⊎◌, ℕ, List, ◌++◌, Option, Some, None, Result, Ok, Err, inl, inr, refl, sym, subst, ap, ◌∙◌}
 use Rattle.std.specs.Prelude.{IfSome, IsErrOf, OnErr, OnOk}
 use Rattle.std.specs.Result.{result_ok}
 use Rattle.record_disk.specs.Disk.{AllImages, Here, Throughout, Told, Trace}

@@ -1,8 +1,8 @@
 -- A look that is left, with what is looked at again behind it, is the course of a look with so many fetches.
-use Rattle.std.proofs.Common.{◌≡◌, ℕ, zero, suc, List, Option, Some, None, refl, sym, ap, ◌∙◌}
+use Rattle.std.proofs.Common.{◌≡◌, ℕ, zero, suc, List, Some, None, refl, sym, ap, ◌∙◌}
 use Rattle.repo_model.specs.Command.{look}
 use Rattle.repo_course.specs.Acts.{left_of_plan, looks_next}
-use Rattle.repo_course.specs.Course.{after_look, asks, fetched, looks}
+use Rattle.repo_course.specs.Course.{after_look, asks, looks}
 use Rattle.repo_course.specs.declared.act.Again.{Again}
 use Rattle.repo_course.specs.declared.act.Next.{Next}
 use Rattle.repo_course.specs.declared.fetched.Verdict.{Verdict}

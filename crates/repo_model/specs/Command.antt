@@ -5,7 +5,6 @@ use Rattle.mvn_coords.specs.declared.kind.Kind.{Kind}
 use Rattle.mvn_coords.specs.declared.kind.Kind.TheVariants.{File, FileSide, DocSide, Doc}
 use Rattle.mvn_coords.specs.declared.fault.PathFault.{PathFault}
 use Rattle.mvn_digest.specs.Sides.{digest_size}
-use Rattle.mvn_metadata.specs.Document.{Document}
 use Rattle.mvn_metadata.specs.Written as written
 use Rattle.repo_model.specs.Data.{Blob, Place, repository, session}
 use Rattle.repo_model.specs.declared.question.Question.{Question}

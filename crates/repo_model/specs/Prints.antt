@@ -1,5 +1,5 @@
 -- Fingerprints as they are recorded, and what they tell of a content.
-use Rattle.std.specs.Prelude.{ℕ, Bool, ◌==◌, if◌then◌else◌, List, [], length, Option, Some, None}
+use Rattle.std.specs.Prelude.{Bool, ◌==◌, if◌then◌else◌, [], length, Some, None}
 use Rattle.std.specs.Option.{option_map_or}
 use Rattle.mvn_digest.specs.Digests.{all_known, further_in}
 use Rattle.mvn_digest.specs.declared.digests.Digests.{Digests}

@@ -1,19 +1,17 @@
 -- How a proxy decides what it answers of a path, and what a fetch that lands makes of it.
-use Rattle.std.specs.Prelude.{ℕ, ◌+◌, Bool, true, false, not, ◌==◌, nat_lt, if◌then◌else◌, List, [], ◌∷◌, length, find, Option, Some, None, Result, Ok, Err, is_some}
-use Rattle.std.specs.Option.{option_map_or, option_and_then}
+use Rattle.std.specs.Prelude.{ℕ, ◌+◌, Bool, true, false, nat_lt, if◌then◌else◌, List, find, Option, Some, None, Result, Ok, is_some}
 use Rattle.mvn_coords.specs.Kind.{kind}
 use Rattle.mvn_coords.specs.declared.kind.Kind.{Kind}
 use Rattle.mvn_coords.specs.declared.kind.Kind.TheVariants.{File, FileSide, Doc, DocSide}
 use Rattle.mvn_coords.specs.declared.fault.PathFault.{PathFault}
-use Rattle.mvn_coords.specs.Layout.{Directory, text_of, text_of_document}
+use Rattle.mvn_coords.specs.Layout.{text_of, text_of_document}
 use Rattle.mvn_metadata.specs.Document.{Document, settled}
 use Rattle.path_patterns.specs.Pattern.{is_let_through}
 use Rattle.repo_model.specs.declared.update.Update.{Update}
 use Rattle.repo_model.specs.declared.update.Update.TheVariants as update
 use Rattle.repo_model.specs.declared.step.Step.{Step}
 use Rattle.repo_model.specs.declared.step.Step.TheVariants.{Serve, Missed, Blocked, Negative, Never, Fetch}
-use Rattle.repo_model.specs.Data.{Row, Kept, Mark, Proxy}
-use Rattle.repo_model.specs.Settings.{ProxyRule}
+use Rattle.repo_model.specs.Data.{Kept, Mark, Proxy}
 use Rattle.repo_model.specs.State.{is_kept, is_mark, row_at}
 
 -- the path of a file or document, also by the path of its side file

@@ -1,5 +1,5 @@
 -- The commands, the replies and the parcels of the program as the machine's plain data.
-use Rattle.std.specs.Prelude.{ℕ, []}
+use Rattle.std.specs.Prelude.{ℕ}
 use Rattle.outside.specs.declared.parcels.Parcel.{Parcel}
 use Rattle.outside.specs.declared.stores.Held.{Ghosts}
 use Rattle.repo_model.specs.declared.print.Print.{Print}

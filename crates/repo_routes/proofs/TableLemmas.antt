@@ -1,12 +1,12 @@
 -- The patterns of the server find the routes of `specs/Routes.antt`, but for the questions.
 use Rattle.std.specs.Prelude.{option_and_then}
 use Rattle.std.specs.Option.{option_map, option_map_or}
-use Rattle.std.specs.List.{after_first, before_first, position_or_len}
+use Rattle.std.specs.List.{position_or_len}
 use Rattle.std.specs.Cmp.Lexicographic.{pointwise}
 use Rattle.std.proofs.Common.{◌≡◌, ◌⊎◌, inl, inr, ℕ, suc, ◌+◌, ◌<◌, Bool, true, false, cond, ◌==◌, ◌&&◌, nat_eq, nat_lt, List, [], ◌∷◌, ◌++◌, length, take, drop, Option, Some, None, refl, sym, ◌∙◌, ap, arith, bytes_eq, codes}
 use Rattle.std.proofs.lemmas.Bool.Decides.{nat_tests}
 use Rattle.byte_cuts.specs.Cuts.{behind}
-use Rattle.matchit.specs.Rows.{RowsOf, catch_all_token, param_token}
+use Rattle.matchit.specs.Rows.{RowsOf, catch_all_token}
 use Rattle.matchit.specs.Router.{RouteOf}
 use Rattle.matchit.specs.Seek.{has_slash, own, seek}
 use Rattle.repo_routes.specs.declared.routes.Pattern.{Pattern}

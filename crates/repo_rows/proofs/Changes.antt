@@ -7,9 +7,8 @@ use Rattle.std.proofs.lemmas.List.{take_at, take_all, take-append-drop}
 use Rattle.std.proofs.Math.Seq.{take-append-add}
 use Rattle.repo_model.specs.declared.item.Item.{Item}
 use Rattle.repo_model.specs.declared.item.Item.TheVariants.{HostedPut, Faded, Relisted, Removed, CachedFile, CachedDoc, SessionOpened, SessionEnded, Digested}
-use Rattle.row_tables.specs.Items.{IsChange, item_bytes, change_bytes, change_of, version_byte}
+use Rattle.row_tables.specs.Items.{IsChange, item_bytes, change_bytes, change_of}
 use Rattle.row_tables.specs.declared.version.Version.{Version}
-use Rattle.row_tables.specs.declared.version.Version.TheVariants.{First, Second}
 use Rattle.repo_rows.specs.Laws.{ReadsAgain, WasWritten}
 use Rattle.row_tables.specs.Reading.{change_at, placed, taken}
 use Rattle.repo_rows.proofs.FieldLaws.{IsBytes, IsBytes-take}

@@ -5,8 +5,9 @@ use Rattle.std.specs.List.{list_all}
 use Rattle.std.proofs.lemmas.Bool.{and_parts, leb-true}
 use Rattle.std.proofs.lemmas.List.{length-map}
 use Rattle.repo_config.specs.Form.{IsSettings, is_group_rule}
-use Rattle.repo_config.specs.Keys.{is_member_list}
-use Rattle.repo_config.specs.Names.{ids_of, is_id}
+use Rattle.settings_keys.specs.Keys.{is_member_list}
+use Rattle.repo_config.specs.Names.{ids_of}
+use Rattle.settings_keys.specs.Ids.{is_id}
 use Rattle.course_laws.specs.Duties.{looks_most, most_asked, most_members, most_rounds, twice}
 use Rattle.repo_course.specs.Cleaning.{Store}
 use Rattle.outside.specs.Faults.{last_count}

@@ -1,10 +1,10 @@
 -- A row behind others: it is found at its place, and changed there alone.
-use Rattle.std.proofs.Common.{◌≡◌, ℕ, Bool, true, false, cond, ◌&&◌, List, [], ◌∷◌, ◌++◌, find, Option, Some, None, refl, sym, ap, ◌∙◌}
+use Rattle.std.proofs.Common.{◌≡◌, true, false, cond, List, [], ◌∷◌, ◌++◌, find, Option, Some, refl, sym, ap, ◌∙◌}
 use Rattle.std.specs.List.{AllByRecursion}
 use Rattle.std.specs.Option.{option_map, option_map_or}
 use Rattle.repo_model.specs.Data.{Row}
 use Rattle.repo_model.specs.Prints.{lacks_further}
-use Rattle.repo_model.specs.Tables.{AreComplete, RecordedRow, change_recorded, lacks_at, recorded_at}
+use Rattle.repo_model.specs.Tables.{AreComplete, RecordedRow, change_recorded, lacks_at}
 use Rattle.row_completion.proofs.Weaving.{Apart, apart-turned, at_place, place-itself}
 
 -- of these rows none stands at the place of one of those

@@ -1,5 +1,5 @@
 -- The items of all recorded files: they are short and fit, and the tables behind the first of them, or behind all.
-use Rattle.std.proofs.Common.{◌≡◌, ℕ, ◌≤◌, List, [], ◌∷◌, ◌++◌, length, Ok, refl, sym, ap, ◌∙◌, subst, arith, append-nil}
+use Rattle.std.proofs.Common.{◌≡◌, List, [], ◌∷◌, ◌++◌, Ok, refl, sym, subst, arith, append-nil}
 use Rattle.std.specs.List.{AllByRecursion}
 use Rattle.outside.specs.Blobs.{Shelf}
 use Rattle.repo_model.specs.Tables.{RecordedRow, Tables, applied}

@@ -1,9 +1,8 @@
 -- The items of recorded files, the first of them or all: they fit one after another, and the rows behind them have their digests.
 use native.Mathlib.Omega.{arith}
-use Rattle.std.proofs.Common.{◌≡◌, ◌⊎◌, inl, inr, ℕ, ◌≤◌, Bool, true, false, cond, ◌&&◌, List, [], ◌∷◌, ◌++◌, length, refl, sym, ap, ◌∙◌, subst, eqb-true}
+use Rattle.std.proofs.Common.{◌≡◌, ◌⊎◌, inl, inr, ◌≤◌, Bool, true, false, cond, List, [], ◌∷◌, ◌++◌, length, refl, sym, ap, ◌∙◌, subst, eqb-true}
 use Rattle.std.specs.Prelude.{◌==◌, ◌||◌, IsTrue}
 use Rattle.std.proofs.lemmas.Bool.{and_parts}
-use Rattle.std.proofs.lemmas.List.{append-nil}
 use Rattle.mvn_digest.specs.declared.known.Further.{Further}
 use Rattle.outside.specs.Blobs.{Shelf}
 use Rattle.repo_model.specs.Prints.{lacks_further}

@@ -1,6 +1,6 @@
 -- Being one of some tables, and what a start reads among them.
-use Rattle.std.proofs.Common.{◌≡◌, ◌⊎◌, List, [], ◌∷◌, ◌++◌, Option, Some, None, inl, inr, refl}
-use Rattle.record_disk.specs.Disk.{Throughout, Trace}
+use Rattle.std.proofs.Common.{◌⊎◌, List, [], ◌∷◌, ◌++◌, Option, Some, None, inl, inr, refl}
+use Rattle.record_disk.specs.Disk.{Trace}
 use Rattle.record_disk.proofs.Moments.{weaker}
 use Rattle.repo_model.specs.declared.item.Item.{Item}
 use Rattle.repo_model.specs.Tables.{Tables}

@@ -1,5 +1,5 @@
 -- An exchange of a remote that tells its count of faults and nothing else.
-use Rattle.std.proofs.Common.{◌≡◌, ◌+◌, ◌≤◌, ℕ, inl, List, length, take, Result, Ok, Err, IfOk, refl, sym}
+use Rattle.std.proofs.Common.{◌+◌, ◌≤◌, ℕ, inl, List, length, Result, Ok, Err, IfOk, refl, sym}
 use Rattle.std.proofs.lemmas.List.{take_all}
 use Rattle.outside_remote.specs.declared.exchange.Asked.{Asked}
 use Rattle.outside_remote.specs.declared.exchange.RemoteFault.{RemoteFault}

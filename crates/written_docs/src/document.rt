@@ -28,7 +28,7 @@ fn digests_of(text: &[u8]) -> Digests
     hashes.finish()
 }
 
-/// The text of a document and its digests, which are made once.
+/// The text of a document and its digests.
 pub fn text_of(alloc: Global, doc: &Doc) -> Result<(SharedBytes, Digests), NoMemory>
     ensures text { IfOk result (λ made. made.0 ≡ form.text doc.now) }
     ensures digests { IfOk result (λ made. made.1 ≡ digests_of made.0) }

@@ -1,7 +1,4 @@
 use native.Mathlib.Omega.{arith}
-use Rattle.std.proofs.Common.{◌≡◌, ◌++◌, List, ℕ, refl, sym, ap, length, ◌∙◌}
-use Rattle.std.specs.Prelude.{codes}
-use Rattle.std.specs.List.{flat_map}
 use Rattle.mvn_metadata.specs.Written.{entry_lines}
 use Rattle.doc_lengths.proofs.LengthLemmas.{all-counted, one-more}
 use Rattle.doc_lengths.proofs.lengths.each_entry.Goals as goal

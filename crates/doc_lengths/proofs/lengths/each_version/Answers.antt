@@ -1,7 +1,6 @@
 use native.Mathlib.Omega.{arith}
-use Rattle.std.proofs.Common.{◌≡◌, ◌++◌, List, ℕ, refl, sym, ap, length, ◌∙◌}
+use Rattle.std.proofs.Common.{List, ℕ, refl, sym, ap, length, ◌∙◌}
 use Rattle.std.specs.Prelude.{codes}
-use Rattle.std.specs.List.{flat_map}
 use Rattle.mvn_metadata.specs.Written.{version_line}
 use Rattle.doc_lengths.specs.Counts.{counted}
 use Rattle.doc_lengths.proofs.LengthLemmas.{all-counted, one-more}

@@ -1,6 +1,5 @@
-use Rattle.std.proofs.Common.{◌≡◌, ◌++◌, List, ℕ, refl, sym, ap, length, ◌∙◌}
+use Rattle.std.proofs.Common.{◌++◌, List, ℕ, refl, sym, ap, length, ◌∙◌}
 use Rattle.std.specs.Prelude.{codes}
-use Rattle.std.specs.List.{flat_map}
 use Rattle.mvn_coords.specs.Layout.{text_of_build}
 use Rattle.mvn_metadata.specs.Merge.{Entry}
 use Rattle.mvn_metadata.specs.Written.{build_version, classifier_line, element, moment_text}

@@ -1,6 +1,5 @@
-use Rattle.std.proofs.Common.{◌≡◌, ◌++◌, List, ℕ, refl, sym, ap, length, ◌∙◌}
+use Rattle.std.proofs.Common.{List, ℕ, refl, sym, ap, length, ◌∙◌}
 use Rattle.std.specs.Prelude.{codes}
-use Rattle.std.specs.List.{flat_map}
 use Rattle.mvn_metadata.specs.Written.{artifact_lines, block, element, listing_lines, snapshot_lines}
 use Rattle.doc_lengths.specs.Counts.{counted}
 use Rattle.doc_lengths.proofs.LengthLemmas.{both}

@@ -1,6 +1,5 @@
 use Rattle.std.proofs.Common.{◌≡◌, ◌++◌, List, ℕ, refl, sym, ap, length, ◌∙◌}
 use Rattle.std.specs.Prelude.{codes}
-use Rattle.std.specs.List.{flat_map}
 use Rattle.mvn_coords.specs.Civil.{text_of_time}
 use Rattle.mvn_coords.specs.Layout.{text_of_number}
 use Rattle.mvn_metadata.specs.Written.{element, newest_lines}

@@ -1,8 +1,7 @@
-use Rattle.std.proofs.Common.{◌≡◌, ◌++◌, List, ℕ, refl, sym, ap, length, ◌∙◌}
+use Rattle.std.proofs.Common.{List, ℕ, refl, sym, ap, length, ◌∙◌}
 use Rattle.std.specs.Prelude.{codes}
-use Rattle.std.specs.List.{flat_map}
 use Rattle.std.specs.Option.{option_map}
-use Rattle.mvn_metadata.specs.Written.{element_if, listing_lines}
+use Rattle.mvn_metadata.specs.Written.{listing_lines}
 use Rattle.doc_lengths.specs.Counts.{counted}
 use Rattle.doc_lengths.proofs.LengthLemmas.{text-so}
 use Rattle.doc_lengths.proofs.lengths.text_length.Goals as goal

@@ -1,6 +1,5 @@
-use Rattle.std.proofs.Common.{◌≡◌, ◌++◌, List, ℕ, refl, sym, ap, length, ◌∙◌}
+use Rattle.std.proofs.Common.{refl, sym, ap, length, ◌∙◌}
 use Rattle.std.specs.Prelude.{codes}
-use Rattle.std.specs.List.{flat_map}
 use Rattle.mvn_metadata.specs.Written.{moment_text, updated_line}
 use Rattle.doc_lengths.specs.Counts.{counted}
 use Rattle.doc_lengths.proofs.LengthLemmas.{length-moment}

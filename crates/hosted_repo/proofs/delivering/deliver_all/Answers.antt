@@ -1,4 +1,4 @@
-use Rattle.std.proofs.Common.{sym, ap, subst}
+use Rattle.std.proofs.Common.{sym, subst}
 use Rattle.repo_model.specs.Data.{Row}
 use Rattle.repo_model.specs.Deploy.{deliver_all}
 use Rattle.hosted_delivery.specs.Deliveries.{session_with, shown_files}

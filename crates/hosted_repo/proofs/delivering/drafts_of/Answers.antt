@@ -1,8 +1,7 @@
-use Rattle.std.proofs.Common.{◌≡◌, List, ℕ, unwrap_or, string_bytes, subst, sym, ap, ◌∙◌}
+use Rattle.std.proofs.Common.{unwrap_or, sym, ap, ◌∙◌}
 use Rattle.std.proofs.lemmas.Map.Iter.{rest_more}
 use Rattle.std.specs.Map.Iter.{deref_pair}
 use Rattle.mvn_coords.specs.Layout.{text_of_directory}
-use Rattle.repo_model.specs.Data as plain
 use Rattle.repo_model.specs.Shown.{shown_parcel}
 use Rattle.repo_model.specs.State.{row_at}
 use Rattle.hosted_delivery.specs.Deliveries.{session_with, shown_files}

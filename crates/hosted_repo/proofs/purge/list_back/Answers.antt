@@ -1,4 +1,4 @@
-use Rattle.std.proofs.Common.{◌≡◌, ◌<◌, ◌+◌, ◌∷◌, ℕ, suc, List, String, Global, drop, length, get_or, string_bytes, arith, add-one, drop-cons, sym, ap, ◌∙◌}
+use Rattle.std.proofs.Common.{◌≡◌, ◌<◌, ◌+◌, ◌∷◌, ℕ, List, String, Global, drop, length, get_or, arith, add-one, drop-cons, sym, ap, ◌∙◌}
 use Rattle.repo_model.specs.Effect.{list_again}
 use Rattle.repo_model.specs.State.{change_where, is_row}
 use Rattle.hosted_repo.specs.Fades.{listed_back}

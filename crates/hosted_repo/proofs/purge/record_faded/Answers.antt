@@ -1,4 +1,4 @@
-use Rattle.std.proofs.Common.{◌≡◌, ◌∙◌}
+use Rattle.std.proofs.Common.{◌∙◌}
 use Rattle.kept_docs.proofs.KeptLemmas.{drafted_of, right_of}
 use Rattle.hosted_repo.proofs.purge.record_faded.Goals as goal
 

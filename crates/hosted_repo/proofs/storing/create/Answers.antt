@@ -1,5 +1,4 @@
-use Rattle.std.proofs.Common.{List, refl, sym, ◌∙◌, subst}
-use Rattle.repo_model.specs.Data as plain
+use Rattle.std.proofs.Common.{refl, sym, ◌∙◌, subst}
 use Rattle.repo_model.specs.Shown.{shown_parcel}
 use Rattle.ordered_rows.proofs.PutBack.{put-back}
 use Rattle.kept_docs.specs.Kept.{AreOf}

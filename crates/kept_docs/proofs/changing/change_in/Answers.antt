@@ -1,4 +1,4 @@
-use Rattle.std.proofs.Common.{◌≡◌, List, ℕ, cond, bytes_eq, None, sym, ap, ◌∙◌}
+use Rattle.std.proofs.Common.{◌≡◌, List, ℕ, cond, bytes_eq, None, ap, ◌∙◌}
 use Rattle.mvn_coords.specs.Layout.{text_of_directory}
 use Rattle.kept_docs.specs.Drafted.{with_file_of}
 use Rattle.kept_docs.specs.Kept.{document_in, kept_at}

@@ -2,7 +2,7 @@
 use Rattle.std.proofs.Common.{◌≡◌, ◌∷◌, ◌&&◌, ◌||◌, not, Bool, true, false, refl, ap, sym, ◌∙◌, arith, get_or}
 use Rattle.std.proofs.lemmas.List.{reverse-append}
 use Rattle.mvn_version.specs.Token as token
-use Rattle.mvn_version.specs.Token.{is_dot, is_seam}
+use Rattle.mvn_version.specs.Token.{is_dot}
 use Rattle.mvn_version.specs.Key.{element, elements, full_word, is_joined, is_number, is_release, is_zero, zeros_trail}
 use Rattle.mvn_version.specs.Element.{shown}
 use Rattle.mvn_version.specs.Order.{ended}

@@ -1,5 +1,5 @@
 use native.Mathlib.Omega.{arith}
-use Rattle.std.proofs.Common.{◌≡◌, ◌<◌, ◌≤◌, ℕ, List, None, ap, sym, subst, ◌∙◌, length, string_bytes}
+use Rattle.std.proofs.Common.{◌≡◌, ◌<◌, ℕ, List, None, ap, sym, subst, ◌∙◌, length, string_bytes}
 use Rattle.std.specs.Prelude.{find}
 use Rattle.repo_model.specs.Data.{Mark}
 use Rattle.repo_model.specs.State.{is_mark}

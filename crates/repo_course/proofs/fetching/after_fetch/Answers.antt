@@ -1,4 +1,4 @@
-use Rattle.std.proofs.Common.{◌≡◌, ◌∙◌, Some, inl, sym, ap, subst}
+use Rattle.std.proofs.Common.{◌≡◌, ◌∙◌, inl, sym, ap, subst}
 use Rattle.repo_course.specs.Acts.{IsAfterFetch, left_of, looks_again, looks_next}
 use Rattle.repo_course.specs.Course.{Course, Fetch, fetch_fault, fetched}
 use Rattle.repo_course.proofs.fetching.after_fetch.Goals as goal

@@ -1,4 +1,4 @@
-use Rattle.std.proofs.Common.{◌≡◌, ◌-◌, arith, rules}
+use Rattle.std.proofs.Common.{◌-◌, arith, rules}
 use Rattle.repo_course.specs.declared.act.Again.{Again}
 use Rattle.repo_course.proofs.Looking.{looks-last, looks-more}
 use Rattle.repo_course.proofs.fetching.again_of.Goals as goal

@@ -1,4 +1,4 @@
-use Rattle.std.proofs.Common.{◌≡◌, ◌∙◌, ◌++◌, ◌∷◌, [], refl, rules}
+use Rattle.std.proofs.Common.{◌≡◌, ◌++◌, ◌∷◌, [], refl, rules}
 use Rattle.repo_course.specs.Course.{with_fault}
 use Rattle.repo_course.specs.declared.act.Next.{Next}
 use Rattle.repo_course.proofs.Looking.{looks-on}

@@ -1,4 +1,4 @@
-use Rattle.std.proofs.Common.{cond, List, [], ◌∷◌, ◌++◌, sym, ap, ◌∙◌}
+use Rattle.std.proofs.Common.{cond, [], ◌∷◌, ◌++◌, sym, ap, ◌∙◌}
 use Rattle.std.proofs.lemmas.List.{append-nil}
 use Rattle.mvn_digest.specs.Digests.{further_in}
 use Rattle.repo_model.specs.declared.item.Item.TheVariants.{Digested}

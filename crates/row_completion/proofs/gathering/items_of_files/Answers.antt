@@ -1,5 +1,4 @@
-use Rattle.std.proofs.Common.{◌≤◌, List, [], ◌∷◌, length, Some, refl, sym, ◌∙◌, subst, arith}
-use Rattle.std.proofs.lemmas.List.{take_all}
+use Rattle.std.proofs.Common.{[], ◌∷◌, Some, refl, sym, ◌∙◌, subst}
 use Rattle.blob_audit.specs.Damages.{AreDamaged, none}
 use Rattle.blob_audit.specs.Files.{shown_file}
 use Rattle.blob_audit.specs.declared.damages.Damaged.{Damaged}

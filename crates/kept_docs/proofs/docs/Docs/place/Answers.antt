@@ -1,4 +1,4 @@
-use Rattle.std.proofs.Common.{◌≡◌, List, ℕ, cond, bytes_eq, sym, ap, ◌∙◌, subst}
+use Rattle.std.proofs.Common.{List, ℕ, cond, bytes_eq, sym, ap, ◌∙◌, subst}
 use Rattle.std.specs.Prelude.{IsSome}
 use Rattle.kept_docs.specs.Kept.{document_in, kept_at, place_at}
 use Rattle.kept_docs.proofs.PageLemmas.{placed-pop, room-last, room-left}

@@ -1,4 +1,4 @@
-use Rattle.std.proofs.Common.{◌≡◌, List, ℕ, Some, string_bytes, sym, ap, ◌∙◌, subst}
+use Rattle.std.proofs.Common.{Some, string_bytes, sym, ap, ◌∙◌}
 use Rattle.kept_docs.proofs.Texts.{other_text, own_text}
 use Rattle.kept_docs.specs.Drafted.{draft_at}
 use Rattle.kept_docs.proofs.drafts.Drafts.put.Goals as goal

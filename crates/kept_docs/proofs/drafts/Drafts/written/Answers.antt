@@ -1,7 +1,7 @@
 use Rattle.std.proofs.Common.{sym, ap, ◌∙◌}
-use Rattle.std.proofs.lemmas.Map.Iter.{rest_all, rest_more}
+use Rattle.std.proofs.lemmas.Map.Iter.{rest_more}
 use Rattle.kept_docs.specs.Placed.{page_at}
-use Rattle.kept_docs.proofs.PageLemmas.{first, first-all, first-more, found}
+use Rattle.kept_docs.proofs.PageLemmas.{first, first-more, found}
 use Rattle.kept_docs.proofs.drafts.Drafts.written.Goals as goal
 
 pub loop-path-preserved : goal.loop-path-preserved
