@@ -2,8 +2,8 @@
 use std::sync::atomic::{AtomicU64, Ordering};
 use std::thread::yield_now;
 
-// How often one who has come looks whether all have, and lets other threads run between: a second and more.
-const LOOKS: u64 = 4_000_000;
+// How often one who has come looks whether all have, and lets other threads run between: a quarter of a second and more.
+const LOOKS: u64 = 1_000_000;
 
 // How many are to meet, and how many have come.
 #[derive(Drop)]
