@@ -10,7 +10,7 @@ use Rattle.repo_course.specs.Serving.{Does, Follows, Outside, Says}
 use Rattle.repo_course.specs.declared.manner.Manner.{Manner}
 use Rattle.repo_course.specs.declared.outcomes.End.{End}
 use Rattle.course_laws.specs.Duties.{Duty, Keeps, MayAsk, MayDo, Rounds, Stand, due_after, due_done, left_by, rounds_after, stand_after, stand_done}
-use Rattle.course_laws.proofs.Counts.{Grew, deed-grew, follows-grew, grew-then}
+use Rattle.course_laws.proofs.Counts.{NoneFell, deed-grew, follows-grew, grew-then}
 use Rattle.course_laws.proofs.Early.{nothing-due, Moves, due-moves}
 use Rattle.answer_laws.specs.Steps.{Step, asked, did}
 use Rattle.answer_laws.specs.Why.{IsWalked, Why, by_head, by_reply, by_deed}
@@ -44,7 +44,7 @@ module _ (by_text : List ℕ → Option Close) where
             absurd (none-some (speaks what) (sym free ∙ makes s.due))
 
     did-first : (deed : Deed) (outcome : Outcome deed) (mine : List Entry) (r : Rounds) (due : Option Close) (steps : List Step) (first old seen new : Outside) (close : Close) → due ≡ None
-        → Does tells deed outcome mine old seen → Grew first old → Grew seen new
+        → Does tells deed outcome mine old seen → NoneFell first old → NoneFell seen new
         → Since tells r (due_done by_text deed outcome due) steps first new close → Since tells r due (did deed outcome mine seen ∷ steps) first new close
     did-first deed outcome mine r due steps first old seen new close none does_so grew more (by_head is quiet) =
         by_deed [] steps deed outcome mine old seen refl none does_so grew more (ap (due_done by_text deed outcome) (sym none) ∙ is) tt quiet
@@ -76,7 +76,7 @@ module _ (tells : Type 0) (duty : Duty) where
   }
 
   walked-does : (deed : Deed) (next : Outcome deed → Course) (outcome : Outcome deed) (mine later : List Entry) (s : Stand) (first old seen new : Outside) (stop : Option End)
-      → MayDo duty.manner deed s → Does tells deed outcome mine old seen → Grew first old → Grew seen new
+      → MayDo duty.manner deed s → Does tells deed outcome mine old seen → NoneFell first old → NoneFell seen new
       → Walked (next outcome) (stand_done duty.by_text deed outcome s) later first seen new stop → Walked (does deed next) s (mine ++ later) first old new stop
   walked-does deed next outcome mine later s first old seen new stop may does_so grew more rest = record {
     steps = did deed outcome mine seen ∷ rest.steps;
@@ -93,7 +93,7 @@ module _ (tells : Type 0) (duty : Duty) where
   }
 
   pub walked : (c : Course) (n : ℕ) (s : Stand) → Keeps duty.by_text duty.manner c n s → (entries : List Entry) (first old new : Outside) (stop : Option End)
-      → Grew first old → Follows tells c entries old new stop → Walked c s entries first old new stop
+      → NoneFell first old → Follows tells c entries old new stop → Walked c s entries first old new stop
   walked (asks command next) zero s k [] first old new stop grew f = absurd f
   walked (asks command next) zero s k (e ∷ es) first old new stop grew f = absurd k
   walked (asks command next) (suc n) s k [] first old new stop grew f = absurd f

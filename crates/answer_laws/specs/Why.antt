@@ -18,7 +18,7 @@ use Rattle.repo_course.specs.declared.outcomes.End.{End}
 use Rattle.repo_course.specs.declared.outcomes.End.TheVariants as stream
 use Rattle.repo_course.specs.declared.said.Said.TheVariants as said
 use Rattle.course_laws.specs.Duties.{Duty, HoldsNothing, Rounds, Stand, due_after, due_done, rounds_after, duty_of, duty_without_head, manner_of, to_end}
-use Rattle.course_laws.specs.Endings.{Grew}
+use Rattle.course_laws.specs.Endings.{NoneFell}
 use Rattle.closed_laws.specs.Streams.{Seen}
 use Rattle.answer_laws.specs.Marked.{Mark, entries_of, others_entry, IsAt}
 use Rattle.answer_laws.specs.Steps.{Leads, Step, asked, did, due_by, made, rounds_behind, rounds_by}
@@ -68,7 +68,7 @@ pub data Why (tells : Type 0) (by_text : List ℕ → Option Close) (r : Rounds)
       → AreSilent by_text (rounds_after e.command (rounds_behind before r)) behind → Why tells by_text r due steps old new close
   by_deed : (before behind : List Step) (deed : Deed) (outcome : Outcome deed) (mine : List Entry) (from seen : Outside)
       → steps ≡ before ++ did deed outcome mine seen ∷ behind → due ≡ None
-      → Does tells deed outcome mine from seen → Grew old from → Grew seen new
+      → Does tells deed outcome mine from seen → NoneFell old from → NoneFell seen new
       → due_done by_text deed outcome None ≡ Some close → AreSilent by_text r before → AreSilent by_text (rounds_behind before r) behind
       → Why tells by_text r due steps old new close
 

@@ -8,21 +8,21 @@ use Rattle.repo_course.specs.Answers.{answer_of, memory_answer}
 use Rattle.repo_course.specs.Course.{Course, Deed, Outcome, asks, does, says, stops, end_of}
 use Rattle.repo_course.specs.declared.outcomes.End.{End}
 use Rattle.repo_course.specs.Serving.{Does, Says, whole, memory, cut, Follows, Opens, clean, torn, failed, refused, unread_head, starved, served, Outside, ReadsOn, ServesStream, RequestTurn}
-pub use Rattle.course_laws.proofs.Rising.{Grew, Calm, not-risen, rose-before, calm-first, calm-then, grew, grew-then, from-is, still-grew, risen, Quiet, quiet-first, quiet-then, no-write-fault, no-blob-fault, no-read-fault}
+pub use Rattle.course_laws.proofs.Rising.{NoneFell, Calm, not-risen, rose-before, calm-first, calm-then, grew, grew-then, from-is, still-grew, risen, Quiet, quiet-first, quiet-then, no-write-fault, no-blob-fault, no-read-fault}
 use Rattle.course_laws.proofs.Deeds.{deed-changes, sides-grew}
 use Rattle.repo_course.specs.Deeds.{sequel}
 
-reads-grew : (old new : Outside) → ReadsOn old new → Grew old new
+reads-grew : (old new : Outside) → ReadsOn old new → NoneFell old new
 reads-grew old new t = from-is old (record old { input = t.0 }) new (grew old (record old { input = t.0 }) refl refl refl refl) t.1
 
 pub says-grew : (answer memory_said : Answer) (next : Option End) (old new : Outside) (end : Option End) → Says answer memory_said next old new end
-    → Grew old new
-says-grew answer memory_said next old new end (whole is ends) = subst (λ o. Grew old o) (sym is) (grew old _ refl refl refl refl)
-says-grew answer memory_said next old new end (memory is ends) = subst (λ o. Grew old o) (sym is) (grew old _ refl refl refl refl)
+    → NoneFell old new
+says-grew answer memory_said next old new end (whole is ends) = subst (λ o. NoneFell old o) (sym is) (grew old _ refl refl refl refl)
+says-grew answer memory_said next old new end (memory is ends) = subst (λ o. NoneFell old o) (sym is) (grew old _ refl refl refl refl)
 says-grew answer memory_said next old new end (cut faults all part rose which front is ends) =
-    subst (λ o. Grew old o) (sym is) (record { reads = omega arith; writes = rose.0; blobs = omega arith; remote = omega arith })
+    subst (λ o. NoneFell old o) (sym is) (record { reads = omega arith; writes = rose.0; blobs = omega arith; remote = omega arith })
 
-pub opens-grew : (settings : Settings) (last : Bool) (old new : Outside) (c : Course) → Opens settings last old new c → Grew old new
+pub opens-grew : (settings : Settings) (last : Bool) (old new : Outside) (c : Course) → Opens settings last old new c → NoneFell old new
 opens-grew settings last old new c (clean begins still is) = still-grew old new still
 opens-grew settings last old new c (torn begins still is) = still-grew old new still
 opens-grew settings last old new c (failed faults rose still is) =
@@ -34,13 +34,13 @@ opens-grew settings last old new c (starved head rest begins uses is) = reads-gr
 opens-grew settings last old new c (served head rest begins uses is) = reads-grew old new (rest, uses)
 
 module _ (tells : Type 0) where
-  pub deed-grew : (deed : Deed) (outcome : Outcome deed) (mine : List Entry) (old new : Outside) → Does tells deed outcome mine old new → Grew old new
+  pub deed-grew : (deed : Deed) (outcome : Outcome deed) (mine : List Entry) (old new : Outside) → Does tells deed outcome mine old new → NoneFell old new
   deed-grew deed outcome mine old new t =
       let c = deed-changes tells deed outcome mine old new t in
       let sides = sides-grew (sequel deed outcome) old new c.sides in
       record { reads = sides.0; writes = sides.1; blobs = c.blobs; remote = c.remote.faults }
 
-  pub follows-grew : (c : Course) (entries : List Entry) (old new : Outside) (end : Option End) → Follows tells c entries old new end → Grew old new
+  pub follows-grew : (c : Course) (entries : List Entry) (old new : Outside) (end : Option End) → Follows tells c entries old new end → NoneFell old new
   follows-grew (asks command next) [] old new end f = absurd f
   follows-grew (asks command next) (e ∷ entries) old new end f = follows-grew (next e.reply) entries old new end f.1
   follows-grew (does deed next) entries old new end f =
@@ -51,11 +51,11 @@ module _ (tells : Type 0) where
 
   module _ (settings : Settings) where
     pub turn-grew : (last : Bool) (entries : List Entry) (old new : Outside) (end : Option End) → RequestTurn settings tells last entries old new end
-        → Grew old new
+        → NoneFell old new
     turn-grew last entries old new end t =
         grew-then old t.1 new (opens-grew settings last old t.1 t.0 t.2) (follows-grew t.0 entries t.1 new end t.3)
 
-    pub serves-grew : (n : ℕ) (entries : List Entry) (old new : Outside) (end : End) → ServesStream settings tells n entries old new end → Grew old new
+    pub serves-grew : (n : ℕ) (entries : List Entry) (old new : Outside) (end : End) → ServesStream settings tells n entries old new end → NoneFell old new
     unfolding ServesStream
     serves-grew zero entries old new end t = still-grew old new t.1
     serves-grew (suc left) entries old new end (inl turn) = turn-grew (left == 0) entries old new (Some end) turn

@@ -27,7 +27,7 @@ use Rattle.course_laws.specs.Duties.{Keeps, MayAsk, MayDo, Rounds, Stand, due_af
 use Rattle.course_laws.specs.Granted.{file_by}
 use Rattle.course_laws.specs.Faultless.{Played, Scene, due_entry, play, wrote}
 use Rattle.course_laws.proofs.Fetched.{Fetched}
-use Rattle.course_laws.proofs.Rising.{Grew, rose-before}
+use Rattle.course_laws.proofs.Rising.{NoneFell, rose-before}
 
 -- memory was wanted, behind what may stand there then, and that was answered or the sink failed in it; or the source or the sink failed
 abbrev pub Ended : (So : Bool → List ℕ → Type 0) (head_only : Bool) (front part : List ℕ) → Outside → Outside → Option End → Type 0
@@ -114,7 +114,7 @@ outcome-so Then So before p old o s end is (inr m) =
     }
 
 -- seen from an earlier world
-pub early-before : (So : Bool → List ℕ → Type 0) (before written : List ℕ) (old mid new : Outside) (end : Option End) → Grew old mid
+pub early-before : (So : Bool → List ℕ → Type 0) (before written : List ℕ) (old mid new : Outside) (end : Option End) → NoneFell old mid
     → Early So before written mid new end → Early So before written old new end
 early-before So before written old mid new end g m = record {
   front = m.front;
@@ -129,7 +129,7 @@ early-before So before written old mid new end g m = record {
   ];
 }
 
-pub outcome-before : {spare : Fetched} (So : Bool → List ℕ → Type 0) (before : List ℕ) (p : Played (Option End)) (old mid new : Outside) (s : State) (end : Option End) → Grew old mid
+pub outcome-before : {spare : Fetched} (So : Bool → List ℕ → Type 0) (before : List ℕ) (p : Played (Option End)) (old mid new : Outside) (s : State) (end : Option End) → NoneFell old mid
     → ComesTo spare So before p mid new s end → ComesTo spare So before p old new s end
 outcome-before So before p old mid new s end g (inl a) = inl a
 outcome-before So before p old mid new s end g (inr m) = inr (early-before So before p.written old mid new end g m)

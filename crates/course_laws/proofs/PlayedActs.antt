@@ -21,7 +21,7 @@ use Rattle.course_laws.proofs.Fetched.{Fetched, FollowsBy}
 use Rattle.course_laws.proofs.Early.{Early, ComesTo, Ready, early-before, ends-due, no-more, plays-due, says-early, says-memory, sink-failed, source-failed}
 use Rattle.course_laws.proofs.Unsent.{MayStarve}
 use Rattle.course_laws.proofs.Deeds.{InHandTold, at}
-use Rattle.course_laws.proofs.Rising.{Calm, Grew}
+use Rattle.course_laws.proofs.Rising.{Calm, NoneFell}
 
 module _ (settings : Settings) (tells : Type 0) (by_text : List ℕ → Option Close) (manner : Manner) where
   -- the course is followed as it is played
@@ -63,7 +63,7 @@ module _ (settings : Settings) (tells : Type 0) (by_text : List ℕ → Option C
         (source-failed So [] old new end last.1 (subst (λ m. Rose old.read_faults m) (sym (ap (λ o. o.read_faults) last.0)) rose))
 
     -- memory is wanted, and nothing was written
-    pub memory-play : s.due ≡ Some (speaks NoMemory) → So manner.head_only [] → (written : List ℕ) → Grew old mid → mid.output ≡ old.output → Early So before written old new end
+    pub memory-play : s.due ≡ Some (speaks NoMemory) → So manner.head_only [] → (written : List ℕ) → NoneFell old mid → mid.output ≡ old.output → Early So before written old new end
     memory-play is so written first kept =
         let said = (ends-due tells by_text manner rest n s (speaks NoMemory) k is entries mid new end follows).0 in
         early-before So before written old mid new end first (says-memory So manner.head_only so mid new end before written said (kept ∙ output_is))

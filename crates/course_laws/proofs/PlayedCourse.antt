@@ -30,7 +30,7 @@ use Rattle.course_laws.specs.Scenes.{Scene}
 use Rattle.outside.specs.Told.{behind}
 use Rattle.repo_course.specs.Deeds.{Sequel, goes_on, by_its_text, ends_by, sequel, rests}
 use Rattle.course_laws.proofs.Deeds.{InHandTold, IsBlobTold, IsPlayed, IsUnsentBy, as_played, at, blob_fails, deed-played, is_torn, sink_fails, source_fails, wants_room}
-use Rattle.course_laws.proofs.Rising.{Calm, Grew, calm-first, calm-then, risen}
+use Rattle.course_laws.proofs.Rising.{Calm, NoneFell, calm-first, calm-then, risen}
 
 reply-in-hand : (c : Command) (reply : Reply) (s : Stand) → ReplyTold reply → InHandTold s → InHandTold (stand_after c reply s)
 reply-in-hand (look repo path tried) (file lease blob) s told hand = (hand.0, told, hand.2)
@@ -99,7 +99,7 @@ module _ (settings : Settings) (tells : Type 0) (witness : tells) (by_text : Lis
   played-on : (deed : Deed) (next : Outcome deed → Course) (outcome : Outcome deed) → Plays settings tells by_text manner (next outcome) → (n : ℕ) (s : Stand) → MayDo manner deed s
       → Keeps by_text manner (next outcome) n (stand_done by_text deed outcome s) → (mine later : List Entry) (st : State) → RowsTold (end_of settings st mine) → IsSome (end_of settings st mine).clock
       → Legal settings (end_of settings st mine) later → Calm (end_of settings st mine).faults (end_of settings (end_of settings st mine) later).faults
-      → (old mid new : Outside) (end : Option End) (input before : List ℕ) (coming unused spare : Fetched) → old.output ≡ Some before → Calm old.blob_faults new.blob_faults → Grew old mid → Grew mid new
+      → (old mid new : Outside) (end : Option End) (input before : List ℕ) (coming unused spare : Fetched) → old.output ≡ Some before → Calm old.blob_faults new.blob_faults → NoneFell old mid → NoneFell mid new
       → FollowsBy tells (next outcome) later unused spare mid new end → IsPlayed settings deed outcome mine s (at st input coming) unused old mid
       → ComesTo spare (MayStarve manner s) before (play settings (does deed next) (at st input coming)) old new (end_of settings (end_of settings st mine) later) end
   played-on deed next outcome ih n s may k mine later st rows clock legal calm old mid new end input before coming unused spare out quiet first grows follows (as_played written left is input_is output told fronts) =

@@ -37,7 +37,7 @@ use Rattle.course_laws.proofs.PlayedCourse.{course-play}
 use Rattle.course_laws.proofs.Told.{faults-grow}
 use Rattle.course_laws.proofs.Unsent.{MayStarve}
 use Rattle.course_laws.proofs.Deeds.{InHandTold}
-use Rattle.course_laws.proofs.Rising.{Calm, Grew, calm-first, calm-then, not-risen, rose-before, calm-of}
+use Rattle.course_laws.proofs.Rising.{Calm, NoneFell, calm-first, calm-then, not-risen, rose-before, calm-of}
 
 -- an answer to this is its head alone only to HEAD
 abbrev MayBeAlone : Front → Bool → Type 0
@@ -96,7 +96,7 @@ module _ (settings : Settings) (left : ℕ) (scene : Scene) where
       (subst (λ b. new.output ≡ Some (b ++ part)) (append_assoc before First.written written) out) ends rose
 
 -- seen from an earlier world
-upto-before : (settings : Settings) (n : ℕ) (scene : Scene) (before : List ℕ) (old mid new : Outside) (end : End) → Grew old mid
+upto-before : (settings : Settings) (n : ℕ) (scene : Scene) (before : List ℕ) (old mid new : Outside) (end : End) → NoneFell old mid
     → IsPlayedUpTo settings n scene before mid new end → IsPlayedUpTo settings n scene before old new end
 upto-before settings n scene before old mid new end g (unbroken played) = unbroken played
 upto-before settings n scene before old mid new end g (broken written is-front out broke) =
@@ -180,7 +180,7 @@ module _ (settings : Settings) (tells : Type 0) (witness : tells) where
     -- a course behind what was read, from where it stands
     played : (front_is : Front) (duty : Duty) → MayBeAlone front_is duty.manner.head_only → (c : Course) → Fulfils duty c → InHandTold duty.stand → (entries : List Entry) (st : State) → Legal settings st entries
         → Calm st.faults (end_of settings st entries).faults
-        → (old mid new : Outside) (end : Option End) (input before : List ℕ) → Ready mid st input before → Calm mid.blob_faults new.blob_faults → Grew old mid
+        → (old mid new : Outside) (end : Option End) (input before : List ℕ) → Ready mid st input before → Calm mid.blob_faults new.blob_faults → NoneFell old mid
         → FollowsBy tells c entries coming spare mid new end → ComesTo spare (AtTurn front_is) before (play settings c (record { state = st; input = input; fetched = coming })) old new (end_of settings st entries) end
     played front_is duty asks c k hand entries st legal calm old mid new end input before ready quiet g f =
         outcome-before (AtTurn front_is) before _ old mid new _ end g
@@ -214,7 +214,7 @@ module _ (settings : Settings) (tells : Type 0) (witness : tells) where
     turn-play last entries st legal calm old new end input before ready quiet (c, mid, o, f) =
         opened c mid o f (opens-keeps settings last old mid c o) (opens-grew settings last old mid c o) (follows-grew tells c entries mid new end (plain tells c entries coming spare mid new end f))
       where
-        quiet-behind : (mid : Outside) → Grew old mid → Grew mid new → Calm mid.blob_faults new.blob_faults
+        quiet-behind : (mid : Outside) → NoneFell old mid → NoneFell mid new → Calm mid.blob_faults new.blob_faults
         quiet-behind mid g more = calm-then old.blob_faults mid.blob_faults new.blob_faults g.blobs more.blobs quiet
 
         comes : (head : Head) (rest : Option (List ℕ)) → Begins old.input (IsWhole head rest) → IsWhole head rest (front input)
@@ -222,7 +222,7 @@ module _ (settings : Settings) (tells : Type 0) (witness : tells) where
 
         -- nothing was used, and this course follows
         at-once : (what : Front) → Begins old.input (λ f. f ≡ what) → (mid : Outside) → mid ≡ old → (due : Close) (c d : Course)
-            → c ≡ d → Fulfils (to_end due (at_end false)) c → FollowsBy tells c entries coming spare mid new end → Grew old mid → Grew mid new
+            → c ≡ d → Fulfils (to_end due (at_end false)) c → FollowsBy tells c entries coming spare mid new end → NoneFell old mid → NoneFell mid new
             → ((scene : Scene) → play_turn settings last what scene ≡ play settings d scene)
             → Turned last (front input) st input before old new (end_of settings st entries) end
         at-once what begins mid still due c d is k f g more plays =
@@ -234,7 +234,7 @@ module _ (settings : Settings) (tells : Type 0) (witness : tells) where
             (quiet-behind mid g more) g f)))
 
         opened : (c : Course) (mid : Outside) (o : Opens settings last old mid c) → FollowsBy tells c entries coming spare mid new end → Fulfils (duty_at o) c
-            → Grew old mid → Grew mid new → Turned last (front input) st input before old new (end_of settings st entries) end
+            → NoneFell old mid → NoneFell mid new → Turned last (front input) st input before old new (end_of settings st entries) end
         opened c mid (clean begins still is) f k g more = at-once Clean begins mid still (rests (Some stream.Closed)) c _ is k f g more (λ scene. refl)
         opened c mid (torn begins still is) f k g more = at-once Cut begins mid still (rests (Some stream.TornRequest)) c _ is k f g more (λ scene. refl)
         opened c mid (failed faults rose still is) f k g more =
@@ -289,7 +289,7 @@ module _ (settings : Settings) (tells : Type 0) (witness : tells) where
         ]
 
     -- the stream goes on behind this turn
-    next-turn : (left : ℕ) (scene : Scene) (before : List ℕ) (old mid new : Outside) (st : State) (end : End) → Grew old mid
+    next-turn : (left : ℕ) (scene : Scene) (before : List ℕ) (old mid new : Outside) (st : State) (end : End) → NoneFell old mid
         → ComesTo spare (AtTurn (front scene.input)) before (First settings left scene) old mid st None
         → ((input before' : List ℕ) → Ready mid st input before' → IsPlayedUpTo settings left (record { state = st; input = input; fetched = spare }) before' mid new end)
         → IsPlayedUpTo settings (suc left) scene before old new end

@@ -4,7 +4,7 @@ use Rattle.outside.specs.Faults.{Rose, last_count}
 use Rattle.outside_remote.specs.Exchanges.{Sees}
 use Rattle.repo_course.specs.Serving.{Outside}
 use Rattle.course_laws.specs.AsPlayed.{StoodStill}
-pub use Rattle.course_laws.specs.Endings.{Grew}
+pub use Rattle.course_laws.specs.Endings.{NoneFell}
 
 -- a count did not rise, and does not stand at the end of its type
 abbrev pub Calm : ℕ → ℕ → Type 0
@@ -27,16 +27,16 @@ pub calm-then : (a b c : ℕ) → a ≤ b → b ≤ c → Calm a c → Calm b c
 calm-then a b c le more calm = (omega arith, omega arith)
 
 pub grew : (old new : Outside) → new.read_faults ≡ old.read_faults → new.write_faults ≡ old.write_faults
-    → new.blob_faults ≡ old.blob_faults → new.remote ≡ old.remote → Grew old new
+    → new.blob_faults ≡ old.blob_faults → new.remote ≡ old.remote → NoneFell old new
 grew old new r w b m = let same = ap (λ (o : Sees). o.faults) m in record { reads = omega arith; writes = omega arith; blobs = omega arith; remote = omega arith }
 
-pub grew-then : (old mid new : Outside) → Grew old mid → Grew mid new → Grew old new
+pub grew-then : (old mid new : Outside) → NoneFell old mid → NoneFell mid new → NoneFell old new
 grew-then old mid new a b = record { reads = omega arith; writes = omega arith; blobs = omega arith; remote = omega arith }
 
-pub from-is : (old mid new : Outside) → Grew old mid → new ≡ mid → Grew old new
-from-is old mid new g is = subst (λ o. Grew old o) (sym is) g
+pub from-is : (old mid new : Outside) → NoneFell old mid → new ≡ mid → NoneFell old new
+from-is old mid new g is = subst (λ o. NoneFell old o) (sym is) g
 
-pub still-grew : (old new : Outside) → new ≡ old → Grew old new
+pub still-grew : (old new : Outside) → new ≡ old → NoneFell old new
 still-grew old new is = from-is old old new (grew old old refl refl refl refl) is
 
 -- a count that rose in the middle would be higher in the end
@@ -49,14 +49,14 @@ pub record Quiet (old new : Outside) : Type 0 where
   pub writes : Calm old.write_faults new.write_faults
   pub blobs : Calm old.blob_faults new.blob_faults
 
-pub quiet-first : (old mid new : Outside) → Grew mid new → Quiet old new → Quiet old mid
+pub quiet-first : (old mid new : Outside) → NoneFell mid new → Quiet old new → Quiet old mid
 quiet-first old mid new g q = record {
   reads = calm-first old.read_faults mid.read_faults new.read_faults g.reads q.reads;
   writes = calm-first old.write_faults mid.write_faults new.write_faults g.writes q.writes;
   blobs = calm-first old.blob_faults mid.blob_faults new.blob_faults g.blobs q.blobs;
 }
 
-pub quiet-then : (old mid new : Outside) → Grew old mid → Grew mid new → Quiet old new → Quiet mid new
+pub quiet-then : (old mid new : Outside) → NoneFell old mid → NoneFell mid new → Quiet old new → Quiet mid new
 quiet-then old mid new first more q = record {
   reads = calm-then old.read_faults mid.read_faults new.read_faults first.reads more.reads q.reads;
   writes = calm-then old.write_faults mid.write_faults new.write_faults first.writes more.writes q.writes;

@@ -18,7 +18,7 @@ EndsByCause SourceFault old new = Rose old.read_faults new.read_faults × (new.w
 EndsByCause SinkFault old new = (new.read_faults ≡ old.read_faults) × Rose old.write_faults new.write_faults
 
 -- no count of faults fell
-pub record Grew (old new : Outside) : Type 0 where
+pub record NoneFell (old new : Outside) : Type 0 where
   pub reads : old.read_faults ≤ new.read_faults
   pub writes : old.write_faults ≤ new.write_faults
   pub blobs : old.blob_faults ≤ new.blob_faults
