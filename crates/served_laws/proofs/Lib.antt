@@ -3,6 +3,7 @@ mod Showing
 mod Stopped
 mod Runs
 mod Swept
+mod Refused
 mod Kept
 mod Servers
 mod Opened

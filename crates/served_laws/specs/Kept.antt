@@ -10,10 +10,11 @@ use Rattle.repo_model.specs.State.{State}
 use Rattle.repo_model.specs.Tables.{Tables}
 use Rattle.repo_laws.specs.Closed.{all_given_out}
 use Rattle.row_tables.specs.Stops.{Unsettled}
-use Rattle.blob_audit.specs.Damages.{print_of}
+use Rattle.blob_audit.specs.Damages.{AreDamaged, print_of}
+use Rattle.blob_audit.specs.Order.{all_rows}
 use Rattle.stop_laws.specs.Found.{IsWholeWithout}
-use Rattle.stop_laws.specs.Handed.{acknowledged_by}
-use Rattle.stop_laws.specs.Runs.{IsAnsweredBy}
+use Rattle.stop_laws.specs.Handed.{acknowledged_by, left_without}
+use Rattle.stop_laws.specs.Runs.{IsAnsweredBy, IsAnsweredOver}
 use Rattle.stop_laws.specs.Stops.{MayNotGo}
 use Rattle.repo_core.specs.Whole.{Whole}
 use Rattle.store_check.specs.Checking.{Recorded}
@@ -38,7 +39,18 @@ pub record BytesOutlast (settings : Settings) (start : State) (t : Tables) (old 
       (bytes : List ℕ) × (blob.bytes ≡ Some bytes) × (blob.print ≡ print_of bytes)
       × FindsSince settings start t old (IsAnsweredBy settings (all_given_out so_far) (acknowledged_by shelf so_far) repo (new_row path blob m.entry.moment) bytes) (first ++ m ∷ []) later
 
--- so does what was made by a repository that was opened over records which told what they had, and a store which told what the start left of it
+-- This says the same of one store: of that which had the blobs of the shelf, stored each that was handed over, and removed what was given out.
+pub record BytesStand (settings : Settings) (start : State) (t : Tables) (old : Unsettled) (shelf : Shelf) (made : List Made) : Type 0 where
+  pub undamaged : (front later rest : List Made) → made ≡ front ++ (later ++ rest)
+      → let found = left_without (all_given_out (entries_made front)) shelf (entries_made (front ++ later)) in
+      FindsSince settings start t old (λ u. AreDamaged found (all_rows u) []) front later
+  pub created_files : (first later rest : List Made) (m : Made) (repo path : List ℕ) (n : ℕ) (blob : Blob) → made ≡ first ++ m ∷ (later ++ rest)
+      → m.entry.command ≡ put repo path n blob → m.entry.reply ≡ created → MayNotGo (entries_made later) path
+      → let so_far = entries_made (first ++ m ∷ later) in
+      (bytes : List ℕ) × (blob.bytes ≡ Some bytes) × (blob.print ≡ print_of bytes)
+      × FindsSince settings start t old (IsAnsweredOver settings (left_without (all_given_out so_far) shelf so_far) repo (new_row path blob m.entry.moment) bytes) (first ++ m ∷ []) later
+
+-- The bytes outlast so what was made by a repository that was opened over records which told what they had, and a store which told what the start left of it
 abbrev pub KeepsBytes : Settings → Recorded → Shelf → Whole → List Made → Type 0
 KeepsBytes settings records shelf core made =
     (those : Numbered) (before : Tables) → shelf.blobs ≡ Some those → records.tables ≡ Some before

@@ -14,6 +14,8 @@ pub use laws::{
 };
 pub use seats::seats_of_repositories_see_closed_histories;
 pub use stops::{
-    cleanings_outlast_stops, replays_keep_created_files, replays_keep_the_bytes_that_came,
-    servers_keep_created_files, servers_keep_the_bytes_that_came,
+    cleanings_outlast_stops, created_files_have_the_body_that_came, entries_at_are_made,
+    replays_keep_created_files, replays_keep_the_bytes_that_came, servers_keep_created_files,
+    servers_keep_the_bytes_that_came, stores_that_did_as_asked_answer_the_bytes_that_came,
+    whole_files_are_not_refused,
 };

@@ -1,31 +1,33 @@
 -- What entries hand over was acknowledged, where each blob tells its bytes and no two have one number; and what was recorded first is stored still.
-use Rattle.std.proofs.Common.{◌≡◌, inl, inr, ℕ, Bool, true, false, cond, List, [], ◌∷◌, ◌++◌, map, Option, Some, None, refl, sym, ap, subst, ◌∙◌}
+use Rattle.std.proofs.Common.{◌≡◌, ◌⊎◌, inl, inr, ℕ, Bool, true, false, cond, List, [], ◌∷◌, ◌++◌, map, Option, Some, None, refl, sym, ap, subst, ◌∙◌, append_assoc, append-nil}
 use Rattle.std.specs.Prelude.{◌==◌, IfSome, IsTrue, if◌then◌else◌, option_and_then}
 use Rattle.std.specs.BTreeMap.{insert_entry, is_at}
 use Rattle.std.specs.Cmp.{nat_cmp_total, tied_itself}
 use Rattle.std.specs.List.{AllByRecursion, list_any}
 use Rattle.std.specs.Map.{remove_entry}
-use Rattle.std.specs.Option.{option_map, option_map_or}
+use Rattle.std.specs.Option.{ForSome, option_map, option_map_or}
 use Rattle.std.specs.Ordering.{is_eq, match_ordering, nat_cmp}
 use Rattle.std.specs.declared.cmp.Ordering.TheVariants.{Less, Equal, Greater}
-use Rattle.std.proofs.lemmas.Bool.{eq-eqb, ne_eqb, or_from, or_left, or_right}
+use Rattle.std.proofs.lemmas.Bool.{eq-eqb, eqb-true, ne_eqb, or_from, or_left, or_right}
 use Rattle.std.proofs.lemmas.List.Folds.{list_any-append}
+use Rattle.std.proofs.lemmas.Option.{none-some}
 use Rattle.sha2.proofs.Facts256.{length-sha256}
-use Rattle.outside.specs.Blobs.{Numbered, Shelf, bytes_at, standing_at}
+use Rattle.outside.specs.Blobs.{Numbered, Shelf, bytes_at, standing_at, without_blob}
+use Rattle.outside.specs.Told.{behind}
 use Rattle.repo_model.specs.Data.{Blob}
 use Rattle.repo_model.specs.History.{Entry}
 use Rattle.repo_model.specs.Prints.{without_further}
 use Rattle.repo_model.specs.State.{is_among}
 use Rattle.repo_model.specs.Tables.{RecordedRow, Tables, names_blob}
 use Rattle.blob_audit.specs.Damages.{IsWhole, print_of}
-use Rattle.stop_laws.specs.Found.{AllHandOver, HasStored, IsAcknowledged, IsStored}
-use Rattle.stop_laws.specs.Handed.{AllHandTold, AnyHands, HandOnce, IsTold, acknowledged_by, call_for, call_of, handed}
+use Rattle.stop_laws.specs.Found.{AllHandOver, HasStored, IsAcknowledged, IsStored, KeepsOthers}
+use Rattle.stop_laws.specs.Handed.{AllHandTold, AnyHands, AnyHandsBytes, HandOnce, HandsBytes, IsTold, acknowledged_by, call_for, call_of, handed, left_without}
 use Rattle.stop_laws.specs.Stores.{StoreCall, begins, looks, number_of, numbers_changed, removes, stores, with_call, with_calls}
 use Rattle.stop_laws.proofs.AllRows.{all-rows, rows-all}
 use Rattle.stop_laws.proofs.Stores.{all-stay, told-there}
 
 -- the fingerprint of a content is recorded whole
-whole-itself : (bytes : List ℕ) → IsWhole (print_of bytes) (Some (print_of bytes))
+pub whole-itself : (bytes : List ℕ) → IsWhole (print_of bytes) (Some (print_of bytes))
 whole-itself bytes = ap (λ (n : ℕ). Some (if n == 0 then without_further (print_of bytes) else print_of bytes)) (length-sha256 bytes)
 
 itself : (n : ℕ) → is_eq (nat_cmp n n) ≡ true
@@ -96,6 +98,91 @@ all-acknowledged shelf those (e ∷ entries) told all once =
     here (Some blob) is (bytes, bytes_are, print_is) =
         let (last, last_told, at) = told-there blob.number bytes (acknowledged_by shelf (e ∷ entries)).blobs (acknowledged-at shelf those [] entries e blob bytes told once is bytes_are) in
         (last, bytes, last_told, at, subst (λ (print : _). IsWhole print (Some (print_of bytes))) (sym print_is) (whole-itself bytes))
+
+-- what is acknowledged stood before, or is of a blob that was handed over
+module _ (n : ℕ) (bytes : List ℕ) where
+  stored-is : (content : List ℕ) (o : Option Numbered) → option_and_then (bytes_at n) (option_map (λ blobs. insert_entry nat_cmp blobs n content) o) ≡ Some bytes → content ≡ bytes
+  stored-is content None at = absurd (none-some bytes at)
+  stored-is content (Some those) at = let both : Some content ≡ Some bytes = sym (inserted-there n content those) ∙ at in cc
+
+  called-only : (shelf : Shelf) (blob : Blob) (o : Option (List ℕ)) → blob.bytes ≡ o → standing_at n (with_call shelf (option_map_or (stores blob.number) o looks)) ≡ Some bytes
+      → (standing_at n shelf ≡ Some bytes) ⊎ ((blob.number ≡ n) × (blob.bytes ≡ Some bytes))
+  called-only shelf blob None is at = inl at
+  called-only shelf blob (Some content) is at =
+      elim (blob.number == n)
+      as (λ b. (blob.number == n) ≡ b → (standing_at n shelf ≡ Some bytes) ⊎ ((blob.number ≡ n) × (blob.bytes ≡ Some bytes))) [
+        | true ↦ λ same.
+            let it : blob.number ≡ n = eqb-true blob.number n same in
+            let there = subst (λ (m : ℕ). standing_at n (with_call shelf (stores m content)) ≡ Some bytes) it at in
+            inr (it, is ∙ ap Some (stored-is content shelf.blobs there))
+        | false ↦ λ other. inl (sym (all-stay n (stores blob.number content ∷ []) shelf (or_from (blob.number == n) false other refl)) ∙ at)
+      ] refl
+
+  handed-only : (shelf : Shelf) (e : Entry) (o : Option Blob) → handed e.command ≡ o → standing_at n (with_call shelf (option_map_or call_of o looks)) ≡ Some bytes
+      → (standing_at n shelf ≡ Some bytes) ⊎ HandsBytes n bytes e.command
+  handed-only shelf e None is at = inl at
+  handed-only shelf e (Some blob) is at = elim (called-only shelf blob blob.bytes refl at) [
+    | inl stood ↦ inl stood
+    | inr here ↦ inr (blob, is, here.0, here.1)
+  ]
+
+  pub acknowledged-only : (shelf : Shelf) (entries : List Entry) → standing_at n (acknowledged_by shelf entries) ≡ Some bytes
+      → (standing_at n shelf ≡ Some bytes) ⊎ AnyHandsBytes n bytes entries
+  acknowledged-only shelf [] at = inl at
+  acknowledged-only shelf (e ∷ entries) at = elim (acknowledged-only (with_call shelf (call_for e)) entries at) [
+    | inl stood ↦ elim (handed-only shelf e (handed e.command) refl stood) [
+      | inl was ↦ inl was
+      | inr here ↦ inr (inl here)
+    ]
+    | inr any ↦ inr (inr any)
+  ]
+
+-- what is handed over once stands behind all
+module _ (n : ℕ) (bytes : List ℕ) where
+  pub acknowledged-bytes : (shelf : Shelf) (those : Numbered) (entries : List Entry) → shelf.blobs ≡ Some those → HandOnce entries → AnyHandsBytes n bytes entries
+      → standing_at n (acknowledged_by shelf entries) ≡ Some bytes
+  acknowledged-bytes shelf those [] told once any = absurd any
+  acknowledged-bytes shelf those (e ∷ entries) told once (inl (blob, is, number_is, bytes_are)) =
+      subst (λ (m : ℕ). standing_at m (acknowledged_by shelf (e ∷ entries)) ≡ Some bytes) number_is (acknowledged-at shelf those [] entries e blob bytes told once is bytes_are)
+  acknowledged-bytes shelf those (e ∷ entries) told once (inr any) =
+      let (them, told_then) = tells-on shelf those (call_for e) told in
+      acknowledged-bytes (with_call shelf (call_for e)) them entries told_then once.1 any
+
+-- what is stored removes nothing
+bytes-still : (shelf : Shelf) (n : ℕ) (o : Option (List ℕ)) → (with_call shelf (option_map_or (stores n) o looks)).removed ≡ shelf.removed
+bytes-still shelf n None = refl
+bytes-still shelf n (Some bytes) = refl
+
+blob-still : (shelf : Shelf) (o : Option Blob) → (with_call shelf (option_map_or call_of o looks)).removed ≡ shelf.removed
+blob-still shelf None = refl
+blob-still shelf (Some blob) = bytes-still shelf blob.number blob.bytes
+
+calls-still : (shelf : Shelf) (entries : List Entry) → (acknowledged_by shelf entries).removed ≡ shelf.removed
+calls-still shelf [] = refl
+calls-still shelf (e ∷ entries) = calls-still (with_call shelf (call_for e)) entries ∙ blob-still shelf (handed e.command)
+
+removes-on : (gone earlier : List ℕ) (shelf : Shelf) → shelf.removed ≡ Some earlier → (with_calls shelf (map removes gone)).removed ≡ Some (earlier ++ gone)
+removes-on [] earlier shelf told = told ∙ ap Some (sym (append-nil earlier))
+removes-on (n ∷ gone) earlier shelf told =
+    removes-on gone (earlier ++ n ∷ []) (without_blob n shelf) (ap (λ (o : Option (List ℕ)). behind o (n ∷ [])) told) ∙ ap Some (append_assoc earlier (n ∷ []) gone)
+
+pub removed-then : (gone earlier : List ℕ) (shelf : Shelf) (entries : List Entry) → shelf.removed ≡ Some earlier → (left_without gone shelf entries).removed ≡ Some (earlier ++ gone)
+removed-then gone earlier shelf entries told = removes-on gone earlier (acknowledged_by shelf entries) (calls-still shelf entries ∙ told)
+
+-- a store that has removed blobs of some numbers keeps the others
+removed-all : (gone : List ℕ) → numbers_changed (map removes gone) ≡ gone
+removed-all [] = refl
+removed-all (n ∷ gone) = ap (λ (ns : List ℕ). n ∷ ns) (removed-all gone)
+
+pub others-kept : (gone : List ℕ) (shelf : Shelf) → KeepsOthers gone shelf (with_calls shelf (map removes gone))
+others-kept gone shelf = there (with_calls shelf (map removes gone)).blobs refl
+  where
+    there : (o : Option Numbered) → (with_calls shelf (map removes gone)).blobs ≡ o
+        → IfSome o (λ them. ForSome shelf.blobs (λ those. (n : ℕ) (bytes : List ℕ) → is_among n gone ≡ false → bytes_at n those ≡ Some bytes → bytes_at n them ≡ Some bytes))
+    there None is = tt
+    there (Some them) is = λ those told n bytes off at.
+        let stays : standing_at n (with_calls shelf (map removes gone)) ≡ standing_at n shelf = all-stay n (map removes gone) shelf (ap (is_among n) (removed-all gone) ∙ off) in
+        sym (ap (option_and_then (bytes_at n)) is) ∙ stays ∙ ap (option_and_then (bytes_at n)) told ∙ at
 
 -- a file that was stored is so still, where none of the entries hands over a blob of its number
 module _ (shelf : Shelf) (entries : List Entry) where

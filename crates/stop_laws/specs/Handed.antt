@@ -10,7 +10,7 @@ use Rattle.repo_model.specs.Fetched.{Landing, got_file, got_doc}
 use Rattle.repo_model.specs.History.{Entry}
 use Rattle.repo_laws.specs.Laws.{AnyByRecursion}
 use Rattle.blob_audit.specs.Damages.{print_of}
-use Rattle.stop_laws.specs.Stores.{StoreCall, looks, stores, with_calls}
+use Rattle.stop_laws.specs.Stores.{StoreCall, looks, removes, stores, with_calls}
 
 -- the blob of what came of a fetch
 abbrev pub landed_blob : Landing → Option Blob
@@ -61,6 +61,13 @@ HandsNumber n command = option_map (λ (blob : Blob). blob.number) (handed comma
 abbrev pub AnyHands : ℕ → List Entry → Type 0
 AnyHands n entries = AnyByRecursion (λ (e : Entry). HandsNumber n e.command) entries
 
+-- a command hands over a blob of this number that tells these bytes, and so does one of these entries
+abbrev pub HandsBytes : ℕ → List ℕ → Command → Type 0
+HandsBytes n bytes command = (blob : Blob) × (handed command ≡ Some blob) × (blob.number ≡ n) × (blob.bytes ≡ Some bytes)
+
+abbrev pub AnyHandsBytes : ℕ → List ℕ → List Entry → Type 0
+AnyHandsBytes n bytes entries = AnyByRecursion (λ (e : Entry). HandsBytes n bytes e.command) entries
+
 -- no two of them hand over blobs of one number
 abbrev pub HandOnce : List Entry → Type 0
 HandOnce [] = Unit {0}
@@ -76,3 +83,7 @@ call_for e = option_map_or call_of (handed e.command) looks
 -- what a store has acknowledged behind these entries, as if it had removed nothing: what it told at first, and each blob that they hand over
 abbrev pub acknowledged_by : Shelf → List Entry → Shelf
 acknowledged_by shelf entries = with_calls shelf (map call_for entries)
+
+-- what it has behind them, where it has stored each blob that they hand over, and then removed those of some numbers
+abbrev pub left_without : List ℕ → Shelf → List Entry → Shelf
+left_without gone shelf entries = with_calls (acknowledged_by shelf entries) (map removes gone)

@@ -62,12 +62,14 @@ IsAnsweredWith settings tells repo row bytes u =
 abbrev pub IsAnsweredAgain : Settings → List ℕ → Row → Tables → Type 0
 IsAnsweredAgain settings repo row u = (tells : ℕ → Option (List ℕ)) → IsAnsweredWith settings tells repo row (tells row.blob.number) u
 
--- So with these bytes, where the store that is found tells its blobs, and keeps what it acknowledged, but that it may have lost those of some
--- numbers.
+-- so with these bytes over the store that is found, where it tells its blobs
+abbrev pub IsAnsweredOver : Settings → Shelf → List ℕ → Row → List ℕ → Tables → Type 0
+IsAnsweredOver settings found repo row bytes u =
+    (tells : ℕ → Option (List ℕ)) → ForSome found.blobs (λ them. ((n : ℕ) → tells n ≡ bytes_at n them) → IsAnsweredWith settings tells repo row (Some bytes) u)
+
+-- and over each that keeps what it acknowledged, but that it may have lost the blobs of some numbers
 abbrev pub IsAnsweredBy : Settings → List ℕ → Shelf → List ℕ → Row → List ℕ → Tables → Type 0
-IsAnsweredBy settings gone acknowledged repo row bytes u =
-    (found : Shelf) → KeepsOthers gone acknowledged found → (tells : ℕ → Option (List ℕ))
-    → ForSome found.blobs (λ them. ((n : ℕ) → tells n ≡ bytes_at n them) → IsAnsweredWith settings tells repo row (Some bytes) u)
+IsAnsweredBy settings gone acknowledged repo row bytes u = (found : Shelf) → KeepsOthers gone acknowledged found → IsAnsweredOver settings found repo row bytes u
 
 -- and with the bytes that were acknowledged under its number
 abbrev pub IsAnsweredWhole : Settings → List ℕ → List ℕ → Row → Tables → Type 0

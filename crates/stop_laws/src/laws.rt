@@ -1,9 +1,9 @@
 //! What follows for a start behind a stop. No function here has code: its contract is the law.
-ghost use Rattle.std.specs.Prelude.{◌≡◌, ◌≢◌, ℕ, IsTrue, false, List, [], ◌∷◌, ◌++◌, Option, Some, None, OnErr, OnOk, Ok, Result, ⊤};
+ghost use Rattle.std.specs.Prelude.{◌≡◌, ◌≢◌, ◌⊎◌, ℕ, IsTrue, false, List, [], ◌∷◌, ◌++◌, Option, Some, None, OnErr, OnOk, Ok, Result, ⊤};
 ghost use Rattle.mvn_coords.specs.Kind.{kind};
 ghost use Rattle.mvn_coords.specs.Layout.{Coordinates};
 ghost use Rattle.mvn_coords.specs.declared.kind.Kind.TheVariants.{File};
-ghost use Rattle.outside.specs.Blobs.{Numbered, Shelf, sealed, without_blob, without_bytes};
+ghost use Rattle.outside.specs.Blobs.{Numbered, Shelf, sealed, standing_at, without_blob, without_bytes};
 ghost use Rattle.outside.specs.declared.faults.BlobFault.{BlobFault};
 ghost use Rattle.outside.specs.Moments.{Moments};
 ghost use Rattle.repo_model.specs.Command.{collect, is_there, look, put};
@@ -23,7 +23,7 @@ ghost use Rattle.repo_laws.specs.Holds.{Holds, InOrder, told, with_items};
 ghost use Rattle.repo_laws.specs.InRange.{InRange, Completes, IsSameBlob};
 ghost use Rattle.repo_laws.specs.Sound.{AreNamedApart, AreProxiesApart, IsSound};
 ghost use Rattle.stop_laws.specs.Found.{AllHandOver, AreStagedStored, AreStored, HasStored, IsCachedAs, IsRecordedAs, IsWholeWithout, KeepsOthers, NameOthers, NamesNone};
-ghost use Rattle.stop_laws.specs.Handed.{AllHandTold, AnyHands, HandOnce, acknowledged_by};
+ghost use Rattle.stop_laws.specs.Handed.{AllHandTold, AnyHands, AnyHandsBytes, HandOnce, acknowledged_by, left_without};
 ghost use Rattle.stop_laws.specs.Stores.{AllStayStored, IsLeftOfStore, MayHaveDone, StoreCall, begins, removes, stores, with_call, with_calls};
 ghost use Rattle.row_tables.specs.Stops.{Rests, Unsettled};
 ghost use Rattle.stop_laws.specs.Runs.{FindsAlways, IsAnsweredAgain, IsAnsweredWhole, IsFoundAgain, IsLeftBySome, StopsAlong, tables_after};
@@ -58,12 +58,24 @@ pub fn stops_leave_stored_blobs()
 
 /// What entries hand over was acknowledged by a store that told its blobs before them and stored each, where each blob tells its bytes, of which
 /// its fingerprint is, and no two have one number: among what it has acknowledged then is each of them, and each that recorded files named
-/// before, where none of the entries hands over a blob of their numbers.
+/// before, where none of the entries hands over a blob of their numbers. Under the number of each stand the bytes that it tells. Nothing else is
+/// acknowledged: what is stood there before, or is the bytes of a blob that an entry hands over under its number.
 pub fn handed_blobs_are_acknowledged()
     ensures handed { (shelf : Shelf) (those : Numbered) (entries : List Entry) → shelf.blobs ≡ Some those → AllHandTold entries → HandOnce entries
         → AllHandOver (acknowledged_by shelf entries) entries }
     ensures recorded { (shelf : Shelf) (t : Tables) (entries : List Entry) → ((n : ℕ) → IsTrue (names_blob n t) → ¬ AnyHands n entries) → HasStored shelf t
         → HasStored (acknowledged_by shelf entries) t }
+    ensures bytes { (shelf : Shelf) (those : Numbered) (entries : List Entry) (n : ℕ) (bytes : List ℕ) → shelf.blobs ≡ Some those → HandOnce entries → AnyHandsBytes n bytes entries
+        → standing_at n (acknowledged_by shelf entries) ≡ Some bytes }
+    ensures only { (shelf : Shelf) (entries : List Entry) (n : ℕ) (bytes : List ℕ) → standing_at n (acknowledged_by shelf entries) ≡ Some bytes
+        → (standing_at n shelf ≡ Some bytes) ⊎ AnyHandsBytes n bytes entries }
+{}
+
+/// A store that did as it was asked keeps enough: that has stored what entries hand over, and then removed the blobs of some numbers, as of those
+/// that Collects gave out. It tells that it removed just these.
+pub fn stores_keep_what_they_do_not_remove()
+    ensures removed { (gone earlier : List ℕ) (shelf : Shelf) (entries : List Entry) → shelf.removed ≡ Some earlier → (left_without gone shelf entries).removed ≡ Some (earlier ++ gone) }
+    ensures kept { (gone : List ℕ) (shelf : Shelf) (entries : List Entry) → KeepsOthers gone (acknowledged_by shelf entries) (left_without gone shelf entries) }
 {}
 
 /// Whatever a start may find behind a stop, between the calls of a run or in the last of them, is what a legal history records that

@@ -13,5 +13,6 @@ pub use laws::{
     starts_answer_kept_files, starts_answer_what_is_recorded, starts_stage_nothing,
     stops_leave_fronts_of_histories, stops_leave_stored_blobs, stops_leave_stored_files,
     stops_of_runs_find_what_is_left, stops_of_runs_leave_no_file_damaged,
-    stops_of_runs_leave_stored_files, stores_do_as_their_clauses_say, whole_files_are_stored,
+    stops_of_runs_leave_stored_files, stores_do_as_their_clauses_say,
+    stores_keep_what_they_do_not_remove, whole_files_are_stored,
 };
