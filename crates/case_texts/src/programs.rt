@@ -84,7 +84,7 @@ fn judge_files<J: Judge>(
 }
 
 /// The status of a program of which all cases go as they have to, or not.
-fn status_of(all: bool) -> ExitCode {
+pub fn status_of(all: bool) -> ExitCode {
     if all {
         ExitCode::SUCCESS
     } else {
@@ -103,23 +103,34 @@ pub fn run_judge<J: Judge>(
     Ok(status_of(judge_files(rt, judge, files.as_slice())?))
 }
 
-/// The same for cases of steps, each followed to the first step of which something else is told than what has to be.
+/// Follows the cases of steps in these files, or in the standard input where there is none, each to the first step of which something
+/// else is told than what has to be, and prints how they go. Whether all go as they have to.
+pub fn follow_files<S: Steps + Drop>(
+    rt: &(impl AllocGlobal + Files + Input + Print),
+    steps: S,
+    files: &[String],
+) -> io::Result<bool> {
+    let names: Names = Names::new(rt.alloc());
+    judge_files(rt, &mut Follower { names, steps }, files)
+}
+
+/// A program that follows the cases of steps in the files that its words name.
 pub fn run_steps<S: Steps + Drop>(
     rt: &(impl AllocGlobal + Env + Files + Input + Print),
     steps: S,
 ) -> io::Result<ExitCode> {
-    let names: Names = Names::new(rt.alloc());
-    run_judge(rt, &mut Follower { names, steps })
+    let files: Vec<String> = env::args(rt)?.skip(1).collect(rt.alloc())?;
+    Ok(status_of(follow_files(rt, steps, files.as_slice())?))
 }
 
-/// The words before `--steps`, and those behind it; nothing behind it where it is none of them.
-fn parted(words: &[String]) -> (&[String], Option<&[String]>) {
+/// The words before a mark, and those behind it; nothing behind it where it is none of them.
+pub fn parted<'a>(words: &'a [String], mark: &str) -> (&'a [String], Option<&'a [String]>) {
     let mut rest: &[String] = words;
     for place in 0..words.len() {
         let [word, behind @ ..] = rest else {
             break;
         };
-        if word.as_str() == "--steps" {
+        if word.as_str() == mark {
             return (words.get(..place).unwrap_or(&[]), Some(behind));
         }
         rest = behind;
@@ -135,12 +146,11 @@ pub fn run_both<J: Judge, S: Steps + Drop>(
     steps: S,
 ) -> io::Result<ExitCode> {
     let files: Vec<String> = env::args(rt)?.skip(1).collect(rt.alloc())?;
-    let (cases, behind) = parted(files.as_slice());
+    let (cases, behind) = parted(files.as_slice(), "--steps");
     let judged: bool = judge_files(rt, judge, cases)?;
     let Some(behind) = behind else {
         return Ok(status_of(judged));
     };
-    let names: Names = Names::new(rt.alloc());
-    let followed: bool = judge_files(rt, &mut Follower { names, steps }, behind)?;
+    let followed: bool = follow_files(rt, steps, behind)?;
     Ok(status_of(judged && followed))
 }

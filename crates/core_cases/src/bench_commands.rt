@@ -1,5 +1,5 @@
-use crate::rows::Rows;
-use crate::steps::Form;
+use crate::bench_rows::Rows;
+use crate::bench_steps::Form;
 use ids::Id;
 use mvn_digest::Hashes;
 use outside::Parcel;

@@ -1,16 +1,18 @@
+// A repository in memory, without records, under many commands.
 ghost use Rattle.std.specs.Prelude.{◌≡◌, All, IfOk, IsTrue};
 ghost use Rattle.repo_model.specs.Command.{meets};
 ghost use Rattle.repo_model.specs.Shown.{shown_command};
 
-use crate::commands::Maker;
+use crate::bench_commands::Maker;
+use crate::bench_rows::Rows;
+use crate::bench_steps::{Form, Step};
 use crate::no_records::NoRecords;
-use crate::rows::Rows;
-use crate::steps::{Form, Step};
 use outside_memory::{FaultScript, MemBlobs, MemHeld, ScriptClock};
 use repo_core::{Command, Core, Reply, start};
 use repo_model::{Finding, SessionResult};
 use std::alloc::{AllocError, Global};
 use std::io::{self, ErrorKind};
+use std::process::ExitCode;
 use std::time::{Clock, Duration, Instant};
 
 /// A repository in memory.
@@ -197,4 +199,38 @@ impl Bench {
         }
         Ok((first, second))
     }
+}
+
+fn print(rt: &impl Print, figure: &Figure, times: bool) -> io::Result<()> {
+    print!(rt; "{:?} {} {}", figure.form, figure.calls, figure.told)?;
+    if times {
+        print!(rt; " {}", figure.nanoseconds)?;
+    }
+    println!(rt)
+}
+
+/// Takes the steps that the words name, and prints a line for each form of commands.
+pub fn run_bench(
+    rt: &(impl AllocGlobal + Clock + Print),
+    words: &[String],
+) -> io::Result<ExitCode> {
+    let [mode, kind, rows, size, stride, keep, steps @ ..] = words else {
+        return Ok(ExitCode::from(2));
+    };
+    let times = mode.as_str() == "times";
+    let Some(rows) = Rows::of(kind, rows, size, stride) else {
+        return Ok(ExitCode::from(2));
+    };
+    let mut bench = Bench::new(rt.alloc(), rows, keep.as_str())?;
+    for word in steps {
+        let Some(step) = Step::of(word.as_str()) else {
+            return Ok(ExitCode::from(2));
+        };
+        let (first, second) = bench.take(rt, step)?;
+        print(rt, &first, times)?;
+        if let Some(second) = second {
+            print(rt, &second, times)?;
+        }
+    }
+    Ok(ExitCode::SUCCESS)
 }

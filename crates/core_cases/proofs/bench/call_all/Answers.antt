@@ -2,7 +2,7 @@ use Rattle.std.proofs.Common.{rules, ◌≡◌, ◌∷◌, ◌++◌, [], Some, I
 use Rattle.std.proofs.lemmas.List.Elements.{All-pop}
 use Rattle.repo_model.specs.Command.{meets}
 use Rattle.repo_model.specs.Shown.{shown_command}
-use Rattle.core_bench.proofs.bench.call_all.Goals as goal
+use Rattle.core_cases.proofs.bench.call_all.Goals as goal
 
 pub call_one-number-requires : goal.call_one-number-requires
 call_one-number-requires c =

@@ -1,7 +1,7 @@
 use Rattle.std.proofs.Common.{All, IsTrue, length}
 use Rattle.repo_model.specs.Command.{meets}
 use Rattle.repo_model.specs.Shown.{shown_command}
-use Rattle.core_bench.proofs.bench.call_all.Given as goal
+use Rattle.core_cases.proofs.bench.call_all.Given as goal
 
 abbrev pub invariant-loop-command : goal.invariant-loop-command
 invariant-loop-command l = All (λ c. IsTrue (meets l.core.settings (shown_command c))) l.batch.items
