@@ -1,6 +1,5 @@
-//! Tests of `turn_seats`, of `run_serve` and of what it stands on: two seats of a repository, servers over objects in memory
-//! and over a folder, and a stream whose client waits for each answer. They stand apart from these, since a crate is proved once
-//! more with its tests.
+//! Tests of `run_serve` and of what it stands on: servers over objects in memory and over a folder, and a stream whose client
+//! waits for each answer. They stand apart from these, since a crate is proved once more with its tests.
 #![tactic(auto)]
 
 #[cfg(test)]
@@ -15,8 +14,6 @@ mod literals;
 mod lock_step;
 #[cfg(test)]
 mod meetings;
-#[cfg(test)]
-mod seats;
 #[cfg(test)]
 mod servers;
 #[cfg(test)]

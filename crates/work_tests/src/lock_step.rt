@@ -1,18 +1,18 @@
 // A stream in lock step: its second request comes only once the answer to the first was taken whole.
-ghost use Rattle.std.specs.Prelude.{◌≡◌};
-ghost use Rattle.repo_model.specs.Shown.{shown_command, shown_reply};
-
 use crate::literals::SETTINGS;
-use crate::seats::{core_of, settings_of};
-use outside::{Blobs, Failed, Sink, Source, Stream, Tells};
-use outside_memory::{FaultScript, MemBlobs};
+use outside::{Blobs, Clock, Failed, Sink, Source, Stream, Tells};
+use outside_memory::{FaultScript, MemBlobs, MemHeld, ScriptClock};
 use outside_remote::{Remote, ScriptRemote};
 use repo_config::Settings;
+use repo_core::Core;
 use repo_course::End;
-use repo_model::{Ask, Command, Reply};
+use repo_run::begin;
 use repo_server::serve_stream;
-use std::alloc::Global;
+use row_tables::{MemRecords, Records};
+use std::alloc::{AllocError, Global};
 use std::test::Fail;
+
+type MemCore = Core<MemRecords, ScriptClock, MemHeld>;
 
 const PUT_ABC: &str =
     "PUT /repository/releases/org/acme/lib/1.0/lib-1.0.jar HTTP/1.1\r\nHost: x\r\nContent-Length: 3\r\n\r\nabc";
@@ -99,43 +99,50 @@ impl Sink for LockStep {
 
 impl Stream for LockStep {}
 
-// How a stream ends, served by whoever takes the commands. Nothing more is said of it.
-fn served_by<
-    B: Blobs,
-    R: Remote,
-    A: Ask<Call = Command<B::Held>, Given = Reply<B::Held>>,
-    T: Stream,
->(
+// The settings that a text says. Where the text stood here, what is known of them would be computed.
+fn settings_of(alloc: Global, text: &str) -> Option<Settings> {
+    match repo_config::read(alloc, text.as_bytes()) {
+        Ok(settings) => Some(settings),
+        Err(_) => None,
+    }
+}
+
+// A repository over what is recorded and stored. Nothing is known of it: who calls it copies its settings from it.
+fn begun<K: Records + Drop, B: Blobs, C: Clock + Drop>(
     alloc: Global,
     settings: &Settings,
-    asker: &mut A,
+    records: K,
+    blobs: &mut B,
+    clock: C,
+) -> Option<Core<K, C, B::Held>> {
+    begin(alloc, settings, records, blobs, clock).ok()
+}
+
+// A repository over nothing.
+fn core_of(alloc: Global, settings: &Settings, blobs: &mut MemBlobs) -> Option<MemCore> {
+    let records = MemRecords::new(alloc, Vec::new(alloc));
+    let clock = ScriptClock::stepping(alloc, 1_709_208_000, 1);
+    begun(alloc, settings, records, blobs, clock)
+}
+
+// How a stream ends, served by a repository by the settings that this has. Nothing more is said of it.
+fn served_by<B: Blobs, R: Remote, K: Records, C: Clock, T: Stream>(
+    alloc: Global,
+    core: &mut Core<K, C, B::Held>,
     blobs: &mut B,
     remote: &mut R,
     stream: &mut T,
-) -> End
-    requires asked { (call : _) → A.asked call ≡ shown_command call }
-    requires answered { (reply : _) → A.answered reply ≡ shown_reply reply }
-    requires ready { A.ready asker.old }
-    requires settings { A.settings asker.old ≡ settings.now }
-{
-    serve_stream(alloc, settings, asker, blobs, remote, stream)
+) -> Result<End, AllocError> {
+    let settings: Settings = core.settings().copied(alloc)?;
+    Ok(serve_stream(alloc, &settings, core, blobs, remote, stream))
 }
 
 // Served by a repository over nothing; nothing where there is none.
 fn end_of<T: Stream>(alloc: Global, settings: &Settings, stream: &mut T) -> Option<End> {
     let mut blobs = MemBlobs::new(alloc, FaultScript::none(alloc));
     let mut remote = ScriptRemote::new(alloc, Vec::new(alloc), Vec::new(alloc));
-    match core_of(alloc, settings, &mut blobs) {
-        Some(mut core) => Some(served_by(
-            alloc,
-            settings,
-            &mut core,
-            &mut blobs,
-            &mut remote,
-            stream,
-        )),
-        None => None,
-    }
+    let mut core = core_of(alloc, settings, &mut blobs)?;
+    served_by(alloc, &mut core, &mut blobs, &mut remote, stream).ok()
 }
 
 // Whether a stream is served to its end, and took the right answers.
