@@ -12,9 +12,9 @@ use Rattle.turn_lock.specs.declared.seat.SeatToken.{SeatToken as Seat}
 use Rattle.turn_lock.specs.History.{entries_by}
 use Rattle.turn_lock.specs.Seats.{joined, mine, opening}
 use Rattle.turn_seats.specs.Seated.{entry_of}
-use Rattle.desk_work.specs.Passages.{Passage, PassesThrough, entries_in}
+use Rattle.seat_server.specs.Passages.{Passage, PassesThrough, entries_in}
 use Rattle.desk_work.specs.Visits.{Attends, Visit, entries_of}
-use Rattle.desk_work.specs.Rules.{Rules}
+use Rattle.seat_server.specs.Rules.{Rules}
 use Rattle.desk_work.specs.Working.{Works}
 use Rattle.desk_laws.proofs.Servers.{all-fit, caller-so, is-itself}
 

@@ -18,7 +18,7 @@ use Rattle.turn_seats.specs.Seated.{Sight, entry_of}
 use Rattle.answer_laws.specs.Marked.{Mark, entries_of as entries_marked, own_of}
 use Rattle.answer_laws.proofs.Due.{stream-answered}
 use Rattle.desk_work.specs.Visits.{Attends, Visit, entries_of}
-use Rattle.desk_work.specs.Rules.{Rules}
+use Rattle.seat_server.specs.Rules.{Rules}
 use Rattle.desk_work.specs.Working.{DeskDone}
 use Rattle.desk_laws.specs.Answered.{ConnectionAnswered, DeskAnswered, VisitsAnswered, marked_by}
 

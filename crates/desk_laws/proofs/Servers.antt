@@ -26,9 +26,9 @@ use Rattle.turn_lock.specs.History.{entries_by}
 use Rattle.turn_lock.specs.Seats.{joined, mine, number, opening}
 use Rattle.turn_seats.specs.Ending.{HoldsSeat, times_in}
 use Rattle.turn_seats.specs.Seated.{entry_of}
-use Rattle.desk_work.specs.Passages.{Passage, PassesThrough, entries_in}
+use Rattle.seat_server.specs.Passages.{Passage, PassesThrough, entries_in}
 use Rattle.desk_work.specs.Visits.{Attends, Visit, entries_of}
-use Rattle.desk_work.specs.Rules.{Rules}
+use Rattle.seat_server.specs.Rules.{Rules}
 use Rattle.desk_work.specs.Working.{CleanedBeside, DeskDone, Works}
 use Rattle.course_laws.proofs.Passes.{passes-ask}
 use Rattle.desk_laws.specs.Back.{GiveAllBack, SpendDrafts, ReturnLeases}

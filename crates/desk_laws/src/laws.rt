@@ -13,7 +13,7 @@ ghost use Rattle.stop_laws.specs.Handed.{AllHandTold, AnyHands, HandOnce};
 ghost use Rattle.turn_lock.specs.Seats.{opening, mine, joined, seen};
 ghost use Rattle.turn_seats.specs.Ending.{HoldsSeat};
 ghost use Rattle.seat_laws.specs.Closing.{IsFit, SeesAll};
-ghost use Rattle.desk_work.specs.Rules.{rules};
+ghost use Rattle.seat_server.specs.Rules.{rules};
 ghost use Rattle.desk_work.specs.Working.{Works};
 ghost use Rattle.desk_laws.specs.Answered.{DeskAnswered};
 ghost use Rattle.desk_laws.specs.Back.{GiveAllBack};

@@ -14,7 +14,7 @@ use Rattle.turn_lock.specs.Seats.{IsSeatOf, opening, parts_of}
 use Rattle.run_desks.specs.Seen.{Floor, Looks}
 use Rattle.turn_seats.specs.Ending.{Ended}
 use Rattle.turn_seats.specs.Histories.{IsHistory}
-use Rattle.desk_work.specs.Rules.{Rules}
+use Rattle.seat_server.specs.Rules.{Rules}
 use Rattle.desk_work.specs.Working.{IsReady, IsBegun, DeskServes, DeskDone, CleanedBeside, Works}
 
 module _ {T C R : Type 0} (rules : Rules T C R) where

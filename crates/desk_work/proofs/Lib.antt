@@ -1,4 +1,3 @@
 mod Shared
 mod Visiting
-mod Passing
 mod Done

@@ -13,7 +13,7 @@ use Rattle.turn_lock.specs.declared.seat.SeatToken.{SeatToken as Seat}
 use Rattle.turn_lock.specs.Seats.{IsSeatOf}
 use Rattle.seat_server.specs.Gained.{Gained}
 use Rattle.seat_server.proofs.Gains.{gained_none, gained_then}
-use Rattle.desk_work.specs.Rules.{Rules}
+use Rattle.seat_server.specs.Rules.{Rules}
 use Rattle.desk_work.specs.Visits.{Visit, Attends, Attended, entries_of}
 
 in_front_none : {L : Type 0} (x : Option (List L)) → x ≡ in_front [] x

@@ -1,4 +1,2 @@
-pub mod Rules
 pub mod Visits
-pub mod Passages
 pub mod Working

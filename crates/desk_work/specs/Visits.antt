@@ -11,7 +11,7 @@ use Rattle.run_desks.specs.Seen.{Kit, Looks, around}
 use Rattle.turn_lock.specs.declared.turns.Turns.{Turns}
 use Rattle.turn_lock.specs.declared.seat.SeatToken.{SeatToken as Seat}
 use Rattle.seat_server.specs.Gained.{Gained}
-use Rattle.desk_work.specs.Rules.{Rules}
+use Rattle.seat_server.specs.Rules.{Rules}
 
 -- one connection: as it came and as it went, the bytes that were read ahead and not used, how its stream ended, its entries, and the desk's things behind it
 pub record Visit (L : Type 0) : Type 0 where

@@ -12,8 +12,8 @@ use Rattle.turn_lock.specs.Seats.{opening, seen, mine, joined, parts_of, IsSeatO
 use Rattle.turn_seats.specs.Ending.{Ended}
 use Rattle.turn_seats.specs.Seated.{entry_of}
 use Rattle.turn_seats.specs.Histories.{IsHistory}
-use Rattle.desk_work.specs.Passages.{KeptClean}
-use Rattle.desk_work.specs.Rules.{Rules}
+use Rattle.seat_server.specs.Passages.{KeptClean}
+use Rattle.seat_server.specs.Rules.{Rules}
 use Rattle.desk_work.specs.Visits.{Attended, IsOver}
 
 -- a seat at the turns of a repository with these settings, whose calls and replies are seen so

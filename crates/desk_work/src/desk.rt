@@ -1,6 +1,6 @@
 //! A desk serves the connections of its port with a seat of its own.
 ghost use Rattle.std.specs.Prelude.{◌≡◌};
-ghost use Rattle.desk_work.specs.Rules.{rules};
+ghost use Rattle.seat_server.specs.Rules.{rules};
 ghost use Rattle.desk_work.specs.Visits.{Attended, IsOver};
 ghost use Rattle.repo_model.specs.Shown.{shown_command, shown_reply};
 ghost use Rattle.run_desks.specs.Seen.{looks};

@@ -1,5 +1,4 @@
 //! Desks and the cleaner as jobs, each with its seat.
-use crate::cleaner::keep_clean;
 use crate::desk::serve_desk;
 use outside::{Blobs, Held, Port, Tells};
 use outside_pace::Pace;
@@ -7,6 +6,7 @@ use outside_remote::Remote;
 use repo_config::Settings;
 use repo_model::{Command, Reply};
 use run_desks::{Cleaner, Desk};
+use seat_server::keep_clean;
 use std::alloc::Global;
 use std::sync::Wait;
 use thread_jobs::Job;
@@ -35,7 +35,7 @@ impl<
     R: Remote + Drop,
     T: Repository<Call = Command<B::Held>, Reply = Reply<B::Held>>,
 > Job for DeskJob<'_, P, B, R, T> {
-    ghost use Rattle.desk_work.specs.Rules.{rules};
+    ghost use Rattle.seat_server.specs.Rules.{rules};
     ghost use Rattle.desk_work.specs.Working.{DeskServes, IsReady};
     ghost use Rattle.repo_model.specs.Shown.{shown_command, shown_reply};
     ghost use Rattle.run_desks.specs.Seen.{looks};
@@ -72,8 +72,8 @@ impl<
     Q: Pace + Drop,
     T: Repository<Call = Command<B::Held>, Reply = Reply<B::Held>>,
 > Job for CleanerJob<'_, B, Q, T> {
-    ghost use Rattle.desk_work.specs.Passages.{KeptClean};
-    ghost use Rattle.desk_work.specs.Rules.{rules};
+    ghost use Rattle.seat_server.specs.Passages.{KeptClean};
+    ghost use Rattle.seat_server.specs.Rules.{rules};
     ghost use Rattle.desk_work.specs.Working.{IsReady};
     ghost use Rattle.repo_model.specs.Shown.{shown_command, shown_reply};
     ghost use Rattle.run_desks.specs.Seen.{broom};

@@ -1,8 +1,8 @@
 //! All desks at once, and the cleaner beside them.
 ghost use Rattle.std.specs.Prelude.{◌≡◌, ◌+◌, ◌<◌, ◌≤◌, [], All, IfOk, IfErr, map, vec_len, vec_capacity};
 ghost use Rattle.std.specs.List.{AllZip, list_any};
-ghost use Rattle.desk_work.specs.Passages.{KeptClean};
-ghost use Rattle.desk_work.specs.Rules.{rules};
+ghost use Rattle.seat_server.specs.Passages.{KeptClean};
+ghost use Rattle.seat_server.specs.Rules.{rules};
 ghost use Rattle.desk_work.specs.Working.{CleanedBeside, DeskDone, DeskServes, IsReady};
 ghost use Rattle.repo_model.specs.Shown.{shown_command, shown_reply};
 ghost use Rattle.run_desks.specs.Seen.{broom, looks};

@@ -1,7 +1,7 @@
 //! Work as a whole: from the desks to the end of the history.
 ghost use Rattle.std.specs.Prelude.{◌≡◌, ◌+◌, ◌^◌, ◌≤◌, [], false, All, IfOk, IsTrue, IsFalse, map, sum_by, vec_len, vec_capacity};
 ghost use Rattle.std.specs.List.{list_any};
-ghost use Rattle.desk_work.specs.Rules.{rules};
+ghost use Rattle.seat_server.specs.Rules.{rules};
 ghost use Rattle.desk_work.specs.Working.{IsReady, Works};
 ghost use Rattle.repo_model.specs.Shown.{shown_command, shown_reply};
 ghost use Rattle.run_desks.specs.Seen.{floor, looks};

@@ -14,7 +14,7 @@ use Rattle.turn_lock.specs.declared.seat.SeatToken.{SeatToken as Seat}
 use Rattle.turn_lock.specs.History.{end_of}
 use Rattle.turn_lock.specs.Seats.{opening, Closes}
 use Rattle.run_desks.specs.Seen.{Floor, Looks}
-use Rattle.desk_work.specs.Rules.{Rules}
+use Rattle.seat_server.specs.Rules.{Rules}
 use Rattle.desk_work.specs.Working.{Works}
 use Rattle.run_serve.specs.Calls.{TellsWork}
 use Rattle.run_serve.specs.Serving.{Opens, Serves, ServesBy, ServesWith, read, refused, worked}

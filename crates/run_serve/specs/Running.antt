@@ -7,7 +7,7 @@ use Rattle.run_desks.specs.Seen.{Floor, Looks}
 use Rattle.repo_run.specs.Running.{Runs}
 use Rattle.repo_run.specs.Status.{IsStatusOfOpening, MatchAction}
 use Rattle.repo_run.specs.Surroundings.{View}
-use Rattle.desk_work.specs.Rules.{Rules}
+use Rattle.seat_server.specs.Rules.{Rules}
 use Rattle.run_serve.specs.Serving.{Serves}
 
 -- the one where the words are a server's, else the other

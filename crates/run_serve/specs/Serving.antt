@@ -13,7 +13,7 @@ use Rattle.repo_run.specs.Surroundings.{FirstOnly, View}
 use Rattle.turn_lock.specs.declared.turns.Turns.{Turns}
 use Rattle.turn_lock.specs.declared.seat.SeatToken.{SeatToken as Seat}
 use Rattle.turn_lock.specs.Seats.{opening, seen, mine, joined}
-use Rattle.desk_work.specs.Rules.{Rules}
+use Rattle.seat_server.specs.Rules.{Rules}
 use Rattle.desk_work.specs.Working.{Works}
 use Rattle.run_serve.specs.Calls.{TellsWork}
 

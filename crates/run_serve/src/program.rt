@@ -1,7 +1,7 @@
 //! A run of the program: its words, and what is done by them.
 ghost use Rattle.std.specs.Prelude.{◌≡◌, ◌<◌, map, vec_len};
 ghost use Rattle.std.specs.String.{string_bytes};
-ghost use Rattle.desk_work.specs.Rules.{rules};
+ghost use Rattle.seat_server.specs.Rules.{rules};
 ghost use Rattle.repo_run.specs.Surroundings.{view};
 ghost use Rattle.repo_run.specs.Words.{asked};
 ghost use Rattle.run_desks.specs.Seen.{looks};

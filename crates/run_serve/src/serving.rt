@@ -1,6 +1,6 @@
 //! A server, from its settings to its line.
 ghost use Rattle.std.specs.Prelude.{◌≡◌, ◌<◌, vec_len};
-ghost use Rattle.desk_work.specs.Rules.{rules};
+ghost use Rattle.seat_server.specs.Rules.{rules};
 ghost use Rattle.repo_run.specs.Surroundings.{output_seen, view, view_of};
 ghost use Rattle.run_desks.specs.Seen.{floor, looks};
 ghost use Rattle.run_lines.specs.Reading.{File};

@@ -1,1 +1,2 @@
 pub mod Gains
+mod Passing

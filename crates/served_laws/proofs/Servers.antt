@@ -17,7 +17,7 @@ use Rattle.turn_lock.specs.History as locked
 use Rattle.turn_lock.specs.Seats.{opening}
 use Rattle.turn_seats.specs.Seated.{entry_of}
 use Rattle.run_desks.specs.Seen.{Floor, Looks}
-use Rattle.desk_work.specs.Rules.{Rules}
+use Rattle.seat_server.specs.Rules.{Rules}
 use Rattle.desk_laws.proofs.HandedOver.{works-drawn, works-once, works-told}
 use Rattle.stop_laws.specs.Handed.{AllHandTold, AnyHands, HandOnce}
 use Rattle.run_serve.specs.Serving.{OtherBlobs, ServesBy, not_started, refused, started, worked}

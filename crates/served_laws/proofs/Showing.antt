@@ -19,7 +19,7 @@ use Rattle.turn_lock.specs.Seats.{number}
 use Rattle.turn_seats.specs.Ending.{HoldsSeat}
 use Rattle.turn_seats.specs.Seated.{entry_of}
 use Rattle.run_desks.specs.Seen.{Kit, Looks}
-use Rattle.desk_work.specs.Rules.{Rules}
+use Rattle.seat_server.specs.Rules.{Rules}
 use Rattle.desk_work.specs.Visits.{Attends, Visit, entries_of}
 use Rattle.desk_work.specs.Working.{DeskDone}
 use Rattle.served_laws.specs.Shown.{AllShowIn, ConnectionShows, DeskShows, DesksShow, Showing, VisitsShow}

@@ -21,7 +21,7 @@ use Rattle.store_check.specs.Checking.{Recorded}
 use Rattle.repo_run.specs.Surroundings.{View}
 use Rattle.run_lines.specs.Printing.{Output}
 use Rattle.run_desks.specs.Seen.{Floor, Looks}
-use Rattle.desk_work.specs.Rules.{Rules}
+use Rattle.seat_server.specs.Rules.{Rules}
 use Rattle.run_serve.specs.Serving.{ServesBy, ServesWith, not_started, refused, started, worked}
 use Rattle.served_laws.specs.Stopped.{FindsSince, Made, calls_made, entries_made}
 

@@ -30,7 +30,7 @@ use Rattle.turn_lock.specs.declared.view.Entry.{Entry as Call}
 use Rattle.turn_seats.specs.Seated.{Sight, entry_of}
 use Rattle.run_desks.specs.Seen.{Floor, Looks}
 use Rattle.run_lines.specs.Printing.{Output}
-use Rattle.desk_work.specs.Rules.{Rules}
+use Rattle.seat_server.specs.Rules.{Rules}
 use Rattle.run_serve.specs.Serving.{ServesBy, ServesWith, not_started, refused, started, worked}
 
 -- an entry that was made, and what is unsettled of the records as its call returns

@@ -16,7 +16,7 @@ ghost use Rattle.repo_run.specs.Replay.{IsReplayed};
 ghost use Rattle.repo_run.specs.Surroundings.{Served, View, outside_of, outside_with, with_store};
 ghost use Rattle.closed_laws.specs.Named.{WasNamed};
 ghost use Rattle.closed_laws.specs.Streams.{ShowsWhatWasNamed};
-ghost use Rattle.desk_work.specs.Rules.{rules};
+ghost use Rattle.seat_server.specs.Rules.{rules};
 ghost use Rattle.run_serve.specs.Serving.{ServesBy};
 ghost use Rattle.served_laws.specs.Restarted.{RestartShows, ShowsWhatWasNamedIn};
 ghost use Rattle.served_laws.specs.Runs.{IsClosed, RecordsTables, ServerShows};

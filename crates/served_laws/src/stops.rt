@@ -33,7 +33,7 @@ ghost use Rattle.run_desks.specs.Seen.{Floor, looks};
 ghost use Rattle.repo_run.specs.Clean.{Cleans};
 ghost use Rattle.repo_run.specs.Replay.{IsReplayed};
 ghost use Rattle.repo_run.specs.Surroundings.{Served, View};
-ghost use Rattle.desk_work.specs.Rules.{rules};
+ghost use Rattle.seat_server.specs.Rules.{rules};
 ghost use Rattle.run_serve.specs.Serving.{ServesBy};
 ghost use Rattle.served_laws.specs.Kept.{BytesOutlast, BytesStand, KeepsBytes, ServerKeepsBytes};
 ghost use Rattle.served_laws.specs.Stopped.{CleanOutlasts, FindsSince, Made, RecordsOutlastStops, ServerOutlasts, entries_made, turns_made};

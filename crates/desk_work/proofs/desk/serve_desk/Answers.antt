@@ -1,6 +1,6 @@
 use Rattle.std.proofs.Common.{◌∙◌, refl}
 use Rattle.run_desks.specs.Seen.{looks}
-use Rattle.desk_work.specs.Rules.{rules}
+use Rattle.seat_server.specs.Rules.{rules}
 use Rattle.desk_work.proofs.Visiting.{attended_none, attended_more}
 use Rattle.desk_work.proofs.desk.serve_desk.Goals as goal
 

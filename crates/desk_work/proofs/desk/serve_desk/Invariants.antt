@@ -1,6 +1,6 @@
 use Rattle.std.proofs.Common.{◌≡◌}
 use Rattle.run_desks.specs.Seen.{looks}
-use Rattle.desk_work.specs.Rules.{rules}
+use Rattle.seat_server.specs.Rules.{rules}
 use Rattle.desk_work.specs.Visits.{Attended}
 use Rattle.desk_work.proofs.desk.serve_desk.Given as goal
 

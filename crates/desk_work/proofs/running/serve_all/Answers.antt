@@ -1,6 +1,6 @@
 use Rattle.repo_model.specs.Shown.{shown_command, shown_reply}
 use Rattle.run_desks.specs.Seen.{looks}
-use Rattle.desk_work.specs.Rules.{rules}
+use Rattle.seat_server.specs.Rules.{rules}
 use Rattle.desk_work.proofs.Done.{all_ready, jobs_done}
 use Rattle.desk_work.proofs.running.serve_all.Goals as goal
 

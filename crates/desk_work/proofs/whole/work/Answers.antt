@@ -1,6 +1,6 @@
 use Rattle.std.proofs.Common.{arith}
 use Rattle.run_desks.specs.Seen.{floor, looks}
-use Rattle.desk_work.specs.Rules.{rules}
+use Rattle.seat_server.specs.Rules.{rules}
 use Rattle.desk_work.proofs.Done.{done_seats, worked}
 use Rattle.desk_work.proofs.whole.work.Goals as goal
 

@@ -12,7 +12,7 @@ use Rattle.run_desks.specs.Seen.{Broom}
 use Rattle.turn_lock.specs.declared.turns.Turns.{Turns}
 use Rattle.turn_lock.specs.declared.seat.SeatToken.{SeatToken as Seat}
 use Rattle.seat_server.specs.Gained.{Gained}
-use Rattle.desk_work.specs.Rules.{Rules}
+use Rattle.seat_server.specs.Rules.{Rules}
 
 -- one pass: its entries, what came of it, and the blobs behind it
 pub record Passage : Type 0 where

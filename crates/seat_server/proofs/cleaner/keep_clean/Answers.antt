@@ -2,9 +2,9 @@ use Rattle.std.proofs.Common.{true, false, ap, refl, ◌∙◌}
 use Rattle.std.specs.Option.{option_map}
 use Rattle.outside_pace.specs.Pauses.{paused}
 use Rattle.run_desks.specs.Seen.{broom}
-use Rattle.desk_work.specs.Rules.{rules}
-use Rattle.desk_work.proofs.Passing.{answered, so_far_none, so_far_more, so_far_ends}
-use Rattle.desk_work.proofs.cleaner.keep_clean.Goals as goal
+use Rattle.seat_server.specs.Rules.{rules}
+use Rattle.seat_server.proofs.Passing.{answered, so_far_none, so_far_more, so_far_ends}
+use Rattle.seat_server.proofs.cleaner.keep_clean.Goals as goal
 
 pub loop-init : goal.loop-init
 loop-init g c = record {

@@ -1,18 +1,18 @@
 //! The cleaner makes a pass over the repositories from time to time, with a seat of its own.
 ghost use Rattle.std.specs.Prelude.{◌≡◌};
-ghost use Rattle.desk_work.specs.Passages.{KeptClean};
-ghost use Rattle.desk_work.specs.Rules.{rules};
+ghost use Rattle.seat_server.specs.Passages.{KeptClean};
+ghost use Rattle.seat_server.specs.Rules.{rules};
 ghost use Rattle.repo_model.specs.Shown.{shown_command, shown_reply};
 ghost use Rattle.run_desks.specs.Seen.{broom};
 ghost use Rattle.turn_lock.specs.History.{IsStep};
 ghost use Rattle.turn_lock.specs.Seats.{opening, IsSeatOf};
 
+use crate::cleaning::clean_with;
 use outside::Blobs;
 use outside_pace::Pace;
 use repo_config::Settings;
 use repo_model::{Command, Reply};
 use run_desks::Cleaner;
-use seat_server::clean_with;
 use std::sync::Wait;
 use turn_lock::{Seat, Thing, Turns};
 use turn_seats::Repository;

@@ -14,8 +14,8 @@ use Rattle.turn_lock.specs.declared.seat.SeatToken.{SeatToken as Seat}
 use Rattle.turn_lock.specs.Seats.{IsSeatOf}
 use Rattle.seat_server.specs.Gained.{Gained}
 use Rattle.seat_server.proofs.Gains.{gained_none, gained_then}
-use Rattle.desk_work.specs.Rules.{Rules}
-use Rattle.desk_work.specs.Passages.{Passage, PassesThrough, entries_in, Answers, AnswersTrue, KeptClean}
+use Rattle.seat_server.specs.Rules.{Rules}
+use Rattle.seat_server.specs.Passages.{Passage, PassesThrough, entries_in, Answers, AnswersTrue, KeptClean}
 
 -- the passes so far, and the pauses before them
 pub record SoFar {T C R : Type 0} (rules : Rules T C R) (settings : Settings) (turns : Turns T C R) (old new : Seat C R T) (before after : Broom) : Type 0 where

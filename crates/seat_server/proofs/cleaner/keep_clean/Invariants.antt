@@ -1,7 +1,7 @@
 use Rattle.run_desks.specs.Seen.{broom}
-use Rattle.desk_work.specs.Rules.{rules}
-use Rattle.desk_work.proofs.Passing.{SoFar}
-use Rattle.desk_work.proofs.cleaner.keep_clean.Given as goal
+use Rattle.seat_server.specs.Rules.{rules}
+use Rattle.seat_server.proofs.Passing.{SoFar}
+use Rattle.seat_server.proofs.cleaner.keep_clean.Given as goal
 
 abbrev pub invariant-loop : goal.invariant-loop
 invariant-loop g l = record {
