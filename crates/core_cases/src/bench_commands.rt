@@ -1,9 +1,9 @@
 use crate::bench_rows::Rows;
 use crate::bench_steps::Form;
+use crate::commands::parcel_of;
 use ids::Id;
-use mvn_digest::Hashes;
 use outside::Parcel;
-use outside_memory::{FaultScript, MemBlobs, MemHeld, store_whole};
+use outside_memory::{FaultScript, MemBlobs, MemHeld};
 use repo_core::{Command, Place};
 use repo_model::{Numbers, Question};
 use std::alloc::{AllocError, Global};
@@ -31,17 +31,11 @@ impl Maker {
 
     // A blob of its own, under a number. The store keeps the last one alone.
     fn parcel(&mut self, blob: u64) -> Result<Parcel<MemHeld>, AllocError> {
-        let mut hashes = Hashes::new();
-        hashes.update(CONTENT);
-        let Ok(held) = store_whole(&mut self.blobs, 1, CONTENT) else {
+        let Ok(mut parcel) = parcel_of(&mut self.blobs, 1, CONTENT) else {
             return Err(AllocError);
         };
-        Ok(Parcel {
-            blob,
-            held,
-            length: CONTENT.len() as u64,
-            digests: hashes.finish(),
-        })
+        parcel.blob = blob;
+        Ok(parcel)
     }
 
     fn repo(&self) -> Result<Text, AllocError> {

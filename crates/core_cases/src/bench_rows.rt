@@ -1,3 +1,4 @@
+use case_texts::number_of;
 use std::alloc::{AllocError, Global};
 
 /// The files of a version, in byte order.
@@ -12,18 +13,14 @@ pub struct Rows {
     stride: u64,
 }
 
-fn number(word: &String) -> Option<u64> {
-    word.as_str().parse::<u64>().ok()
-}
-
 impl Rows {
     /// So many rows, with so many versions an artifact or builds a directory, and this stride from one turn to the next.
     pub fn of(kind: &String, rows: &String, size: &String, stride: &String) -> Option<Rows> {
         Some(Rows {
             releases: kind.as_str() == "releases",
-            rows: number(rows)?,
-            size: number(size)?,
-            stride: number(stride)?,
+            rows: number_of(rows.as_str())?,
+            size: number_of(size.as_str())?,
+            stride: number_of(stride.as_str())?,
         })
     }
 

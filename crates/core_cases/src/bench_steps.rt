@@ -1,3 +1,5 @@
+use case_texts::number_of;
+
 /// What is asked of the repository, about a row or about the number that a command before it gave.
 #[derive(Clone, Copy, Debug)]
 pub enum Form {
@@ -58,8 +60,8 @@ impl Step {
         Some(Step {
             first,
             second,
-            from: from.parse::<u64>().ok()?,
-            end: end.parse::<u64>().ok()?,
+            from: number_of(from)?,
+            end: number_of(end)?,
         })
     }
 }

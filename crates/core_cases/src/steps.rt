@@ -11,7 +11,7 @@ use std::alloc::{AllocError, Global};
 
 /// The number that a word is.
 pub(crate) fn number_of(word: &str) -> Result<u64, WorldFault> {
-    word.parse::<u64>().map_err(|_| WorldFault::NoStep)
+    case_texts::number_of(word).ok_or(WorldFault::NoStep)
 }
 
 /// The numbers that words are.

@@ -42,7 +42,7 @@ impl Shared {
 /// them stores is there for all.
 ///
 /// A stated number of twins meet: each of these waits at its first read for the first reads of the others, and that read fails
-/// where they don't come, after 4,000,000 looks. So reads that go through show that so many threads were at work at once. A
+/// where they don't come, after 1,000,000 looks. So reads that go through show that so many threads were at work at once. A
 /// call fails otherwise where the store's fails. Contracts see whether a twin is still to meet the others, and how many of its own calls have
 /// failed. It tells no blobs, since other threads change them; a blob in use tells its bytes.
 #[derive(Drop)]
