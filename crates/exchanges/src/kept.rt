@@ -20,6 +20,11 @@ type MemCore = Core<MemRecords, ScriptClock, MemHeld>;
 
 type GivenCore = Core<MemRecords, ScriptClock, WrongHeld>;
 
+/// The settings of a case. Nothing where they can not be read.
+fn settings_of(alloc: Global, case: &Case) -> Option<Settings> {
+    read(alloc, case.settings.as_slice()).ok()
+}
+
 /// A core of these settings over what is recorded and stored. Nothing where it does not start.
 fn begun<K: Records + Drop, B: Blobs, C: Clock + Drop>(
     alloc: Global,
@@ -71,7 +76,7 @@ impl Kept {
     /// A core over what is there before all runs of a case. Nothing where it does not start.
     pub(crate) fn new(alloc: Global, case: &Case) -> Result<Option<Kept>, AllocError> {
         let Store { mut blobs, records } = store_of(alloc, case, case.script)?;
-        let Some(settings) = read(alloc, case.settings.as_slice()).ok() else {
+        let Some(settings) = settings_of(alloc, case) else {
             return Ok(None);
         };
         let clock: ScriptClock = clock_of(alloc, case);
@@ -137,7 +142,7 @@ impl Given {
             failing_at(alloc, case.script.call_of(Object::Blobs))?,
         );
         let records: MemRecords = records_of(alloc, case.script.call_of(Object::Records))?;
-        let Some(settings) = read(alloc, case.settings.as_slice()).ok() else {
+        let Some(settings) = settings_of(alloc, case) else {
             return Ok(None);
         };
         let clock: ScriptClock = clock_of(alloc, case);
