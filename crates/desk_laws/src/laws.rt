@@ -1,12 +1,15 @@
 //! What follows for drafts, leases and blobs. No function here has code: its contract is the law.
 ghost use Rattle.std.specs.Prelude.{◌≡◌, ◌≤◌, ℕ, Bool, List, [], map};
 ghost use Rattle.std.specs.List.{AllZip};
+ghost use Rattle.repo_model.specs.Data.{Blob};
 ghost use Rattle.repo_model.specs.History.{Entry, Legal};
 ghost use Rattle.repo_model.specs.Settings.{Settings};
 ghost use Rattle.repo_model.specs.State.{State};
 ghost use Rattle.repo_course.specs.Asking.{IsWoven};
 ghost use Rattle.repo_course.specs.Serving.{AllTell, Outside, ServesStream};
 ghost use Rattle.repo_course.specs.declared.outcomes.End.{End};
+ghost use Rattle.repo_laws.specs.Closed.{IsLentAs};
+ghost use Rattle.repo_server.specs.Lent.{IsLent};
 ghost use Rattle.run_desks.specs.Seen.{Floor, looks};
 ghost use Rattle.run_desks.specs.declared.objects.Desk.{Desk};
 ghost use Rattle.stop_laws.specs.Handed.{AllHandTold, AnyHands, HandOnce};
@@ -22,8 +25,15 @@ ghost use Rattle.turn_seats.specs.Seated.{entry_of};
 
 use outside::{Blobs, Held, Port, Tells};
 use outside_remote::Remote;
+use repo_model::Ask;
 use turn_lock::Thing;
 use turn_seats::Repository;
+
+/// A file that whoever takes commands gave as its last reply is lent in the state that is known then. As long as this lease is not given
+/// back, no entry gives its blob out to be removed (`repo_laws::numbers::readers_last`).
+pub fn lent_files_are_leased<A: Ask>()
+    ensures { (asker : A) (blob : Blob) → IsLent A.asks asker blob → (lease : ℕ) × IsLentAs lease blob.number (A.state asker) }
+{}
 
 /// A stream that is served puts, stages, lands or gives up each draft that it was given, and gives each lease back, by a later entry
 /// of its own, wherever its entries lie in a legal history, also among those of others.

@@ -1,4 +1,4 @@
--- The sending of a file comes next only behind a look that was replied to with it.
+-- A file is sent next only behind a reply that gave it.
 use Rattle.std.proofs.Common.{◌≡◌, ℕ, zero, suc, Bool, true, false, List, Option, Some, None, Result, Ok, Err, inl, inr, refl, sym, subst}
 use Rattle.std.specs.Prelude.{if◌then◌else◌}
 use Rattle.fetch_plan.specs.declared.Outcome.TheVariants as came
@@ -17,21 +17,17 @@ use Rattle.repo_routes.specs.Intent.{Intent, Judged}
 use Rattle.repo_routes.specs.Judge.{judge}
 use Rattle.repo_routes.specs.declared.judging.Refused.{Refused}
 use Rattle.repo_course.specs.Acts as act
-use Rattle.repo_course.specs.Acts.{IsAfterBody, IsAfterFetch, Starts, after_body, after_head, after_reply, left_of_body, left_of_plan, left_uninvited, looks_again, looks_next}
-use Rattle.repo_course.specs.Course.{Body, Close, Course, Fetch, Kept, Stored, after_continue, after_document, after_fetch, after_land, after_look, after_may_put, after_put, after_side, after_store, after_take, answers, closes, compares, course_for, course_of, cut_off, does, gives_any_up, gives_up, invites, leaves_draft, looks, manner_for, notes, of_fault, of_sent, of_store, rests, rounds_of, said_missed, said_of, speaks, stores, take_body, read_body, tells, without_memory}
+use Rattle.repo_course.specs.Acts.{IsAfterBody, IsAfterFetch, Starts, after_body, after_head, after_reply, left_of_plan, looks_again, looks_next}
+use Rattle.repo_course.specs.Course.{Body, Close, Course, Fetch, Kept, Stored, after_document, after_fetch, after_land, after_look, after_may_put, after_put, after_side, after_store, after_take, answers, closes, compares, course_for, course_of, cut_off, does, gives_any_up, gives_up, invites, leaves_draft, looks, manner_for, notes, of_fault, of_sent, of_store, rests, rounds_of, said_missed, said_of, speaks, stores, take_body, read_body, tells, without_memory}
 use Rattle.repo_course.specs.declared.act.After.{After}
 use Rattle.repo_course.specs.declared.act.After.TheVariants as after
 use Rattle.repo_course.specs.declared.act.Again.{Again}
-use Rattle.repo_course.specs.declared.act.Coming.{Coming}
-use Rattle.repo_course.specs.declared.act.Coming.TheVariants.{File, Small}
 use Rattle.repo_course.specs.declared.act.Form.{Form}
 use Rattle.repo_course.specs.declared.act.Form.TheVariants.{Side as SideForm, Document as DocumentForm}
 use Rattle.repo_course.specs.declared.act.SmallBody.{SmallBody}
 use Rattle.repo_course.specs.declared.fetched.FetchFault.{FetchFault}
 use Rattle.repo_course.specs.declared.fetched.Verdict.{Verdict}
 use Rattle.repo_course.specs.declared.manner.Manner.{Manner}
-use Rattle.repo_course.specs.declared.outcomes.Continued.{Continued}
-use Rattle.repo_course.specs.declared.outcomes.Continued.TheVariants as continued
 use Rattle.repo_course.specs.declared.said.Said.{Said}
 use Rattle.repo_course.specs.declared.said.Said.TheVariants as said
 use Rattle.repo_server.specs.Lent.{SendsOnly}
@@ -95,14 +91,7 @@ module _ (Holds : Blob → Type 0) where
   reply-sends manner (after.Stop end) reply lent = tt
   reply-sends manner (after.Land held next) reply lent = land-sends manner held (looks_next manner next) tt reply
 
-  -- Behind any other deed none is.
-  pub continue-sends : (manner : Manner) (coming : Coming) (written : Continued)
-      → SendsOnly Holds (after_continue (left_uninvited coming) (left_of_body manner coming) written)
-  continue-sends manner (File body) continued.Written = tt
-  continue-sends manner (File body) continued.SinkFault = tt
-  continue-sends manner (Small body) continued.Written = tt
-  continue-sends manner (Small body) continued.SinkFault = tt
-
+  -- Behind a deed none is.
   pub take-sends : (place : Place) (path : List ℕ) (n count : ℕ) (manner : Manner) (stored : Stored) → SendsOnly Holds (after_take place path n count manner stored)
   take-sends place path n count manner (Ok blob) = tt
   take-sends place path n count manner (Err fault) = tt
@@ -146,7 +135,7 @@ module _ (Holds : Blob → Type 0) where
   fetch-sends manner so_far a plan came left (inr is) =
       subst (SendsOnly Holds) (sym is) (fetched-sends manner plan (looks_again manner so_far a plan.member) None)
 
-  -- No course begins with it.
+  -- No course begins with the sending of a file.
   looks-send : (manner : Manner) (rounds : ℕ) (repo path tried : List ℕ) (so_far : Verdict) → SendsOnly Holds (looks manner rounds repo path tried so_far)
   looks-send manner zero repo path tried so_far = tt
   looks-send manner (suc n) repo path tried so_far = tt
