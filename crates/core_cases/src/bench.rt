@@ -3,10 +3,8 @@ ghost use Rattle.std.specs.Prelude.{◌≡◌, All, IfOk, IsTrue};
 ghost use Rattle.repo_model.specs.Command.{meets};
 ghost use Rattle.repo_model.specs.Shown.{shown_command};
 
-use crate::bench_commands::Maker;
-use crate::bench_rows::Rows;
-use crate::bench_steps::{Form, Step};
 use crate::no_records::NoRecords;
+use core_steps::{Form, Maker, Rows, Step};
 use outside_memory::{FaultScript, MemBlobs, MemHeld, ScriptClock};
 use repo_core::{Command, Core, Reply, start};
 use repo_model::{Finding, SessionResult};
@@ -209,6 +207,26 @@ fn print(rt: &impl Print, figure: &Figure, times: bool) -> io::Result<()> {
     println!(rt)
 }
 
+// Takes the steps that the words name at a bench, and prints a line for each form of commands; whether all words are steps.
+fn take_all(
+    rt: &(impl Clock + Print),
+    bench: &mut Bench,
+    words: &[String],
+    times: bool,
+) -> io::Result<bool> {
+    for word in words {
+        let Some(step) = Step::of(word.as_str()) else {
+            return Ok(false);
+        };
+        let (first, second) = bench.take(rt, step)?;
+        print(rt, &first, times)?;
+        if let Some(second) = second {
+            print(rt, &second, times)?;
+        }
+    }
+    Ok(true)
+}
+
 /// Takes the steps that the words name, and prints a line for each form of commands.
 pub fn run_bench(
     rt: &(impl AllocGlobal + Clock + Print),
@@ -217,20 +235,13 @@ pub fn run_bench(
     let [mode, kind, rows, size, stride, keep, steps @ ..] = words else {
         return Ok(ExitCode::from(2));
     };
-    let times = mode.as_str() == "times";
     let Some(rows) = Rows::of(kind, rows, size, stride) else {
         return Ok(ExitCode::from(2));
     };
     let mut bench = Bench::new(rt.alloc(), rows, keep.as_str())?;
-    for word in steps {
-        let Some(step) = Step::of(word.as_str()) else {
-            return Ok(ExitCode::from(2));
-        };
-        let (first, second) = bench.take(rt, step)?;
-        print(rt, &first, times)?;
-        if let Some(second) = second {
-            print(rt, &second, times)?;
-        }
+    if take_all(rt, &mut bench, steps, mode.as_str() == "times")? {
+        Ok(ExitCode::SUCCESS)
+    } else {
+        Ok(ExitCode::from(2))
     }
-    Ok(ExitCode::SUCCESS)
 }

@@ -9,25 +9,15 @@
 //! The status is 2 where they are none of these.
 #![tactic(auto)]
 
-mod asks;
 mod bench;
-mod bench_commands;
-mod bench_rows;
-mod bench_steps;
-mod commands;
-mod faults;
-mod fetched;
-mod generated;
 mod no_records;
-mod plain;
-mod replies;
-mod steps;
+mod starts;
 mod worlds;
 
 use crate::bench::run_bench;
-use crate::steps::take;
 use crate::worlds::World;
 use case_texts::{Steps, Tale, follow_files, parted, status_of};
+use core_steps::take;
 use std::alloc::{AllocError, Global};
 use std::process::ExitCode;
 use std::{env, io};

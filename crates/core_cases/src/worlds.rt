@@ -1,9 +1,7 @@
 // Cores over memory, one after the other, and what outlasts each. A core is called in small functions alone, so that what it
 // promises is not carried through the others.
-use crate::asks::Ask;
-use crate::commands::{command_of, may_put, parcel_of, stage};
-use crate::faults::WorldFault;
-use crate::replies::{numbers_of, told, told_start};
+use crate::starts::told_start;
+use core_steps::{Ask, Cores, WorldFault, command_of, may_put, numbers_of, parcel_of, stage, told};
 use outside::{Blobs, Clock, Held, Parcel};
 use outside_memory::{FaultScript, MemBlobs, MemHeld, ScriptClock, read_whole, store_whole};
 use repo_config::{Settings, read};
@@ -64,56 +62,6 @@ fn parcel_in<H: Held>(reply: Option<Reply<H>>) -> Option<Parcel<H>> {
         Some(Reply::File { lease: _, parcel }) => Some(parcel),
         _ => None,
     }
-}
-
-/// Cores over memory, one after the other. The steps of a case know no more of a world, so that what a core promises is not carried
-/// through them.
-pub(crate) trait Cores {
-    /// Begins again: nothing is recorded or stored, and no core runs. The calls of the store with these numbers fail; the first has the
-    /// number 0.
-    fn renew(&mut self, failing: &[u64]) -> Result<(), WorldFault>;
-
-    /// A start by a clock from this moment, each so many seconds after the one before: what it came to.
-    fn start(&mut self, settings: &[u8], at: u64, step: u64) -> Result<String, WorldFault>;
-
-    /// A start by a clock that stands at the first of these moments and tells the others, of which the last is repeated: what it came to.
-    fn start_at(&mut self, settings: &[u8], moments: &[u64]) -> Result<String, WorldFault>;
-
-    /// Ends the core that runs.
-    fn stop(&mut self) -> Result<(), WorldFault>;
-
-    /// How many calls the core had that was ended last, and what its clock then told.
-    fn ended(&self) -> (u64, u64);
-
-    /// The items that are recorded, while no core runs.
-    fn items(&self) -> Result<&[Item], WorldFault>;
-
-    /// New records, of which these calls fail.
-    fn fail_at(&mut self, failing: &[u64]) -> Result<(), WorldFault>;
-
-    /// The blobs that were removed from the store, in their order, and those that are there.
-    fn told_blobs(&mut self) -> Result<String, WorldFault>;
-
-    /// Stores bytes past the core.
-    fn store(&mut self, blob: u64, bytes: &[u8]) -> Result<(), WorldFault>;
-
-    /// Removes a blob past the core.
-    fn remove(&mut self, blob: u64) -> Result<(), WorldFault>;
-
-    /// Whether a command meets its condition.
-    fn fits(&mut self, ask: Ask<'_>) -> Result<bool, WorldFault>;
-
-    /// The reply to a command, in words; `unfit` where it does not meet its condition.
-    fn ask(&mut self, ask: Ask<'_>) -> Result<String, WorldFault>;
-
-    /// Keeps the parcel of a file that is there; whether there is one.
-    fn borrow(&mut self, repo: &str, path: &str) -> Result<bool, WorldFault>;
-
-    /// The bytes of the parcel that is kept.
-    fn read(&mut self) -> Result<Vec<u8>, WorldFault>;
-
-    /// Whether a session gives the draft of a number at a path of its own, and takes a file without bytes there.
-    fn stages(&mut self, session: u64, number: u64) -> Result<bool, WorldFault>;
 }
 
 impl World {
@@ -196,6 +144,10 @@ impl Cores for World {
     fn renew(&mut self, failing: &[u64]) -> Result<(), WorldFault> {
         *self = World::new(self.alloc, failing)?;
         Ok(())
+    }
+
+    fn another(&self) -> Result<World, WorldFault> {
+        World::new(self.alloc, &[])
     }
 
     fn start(&mut self, settings: &[u8], at: u64, step: u64) -> Result<String, WorldFault> {

@@ -4,7 +4,7 @@ use repo_model::Question;
 
 /// A command: repositories, paths, numbers and contents.
 #[derive(Clone, Copy)]
-pub(crate) enum Ask<'a> {
+pub enum Ask<'a> {
     Look(&'a str, &'a str),
     // where the remotes of these members were tried already
     LookAgain(&'a str, &'a str, &'a [String]),

@@ -3,7 +3,7 @@ use std::fmt;
 
 /// Why a step can't be taken.
 #[derive(Clone, Copy, Debug, PartialEq, Eq)]
-pub(crate) enum WorldFault {
+pub enum WorldFault {
     NoMemory,
     Blobs,
     Settings,

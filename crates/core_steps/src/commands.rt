@@ -7,15 +7,14 @@ use ids::Id;
 use mvn_digest::{Digest, Hashes};
 use outside::Parcel;
 use outside_memory::{MemBlobs, MemHeld, store_whole};
-use repo_core::{Command, Place};
-use repo_model::Numbers;
+use repo_model::{Command, Numbers, Place};
 use std::alloc::Global;
 use texts::Text;
 
 type MemCommand = Command<MemHeld>;
 
 /// A parcel of these bytes, stored under a number.
-pub(crate) fn parcel_of(
+pub fn parcel_of(
     blobs: &mut MemBlobs,
     blob: u64,
     bytes: &[u8],
@@ -74,7 +73,7 @@ fn put(
 }
 
 /// The command that stages a parcel in a session.
-pub(crate) fn stage(
+pub fn stage(
     alloc: Global,
     session: u64,
     path: &str,
@@ -90,7 +89,7 @@ pub(crate) fn stage(
 }
 
 /// The command that asks for a draft.
-pub(crate) fn may_put(alloc: Global, place: Place, path: &str) -> Result<MemCommand, WorldFault> {
+pub fn may_put(alloc: Global, place: Place, path: &str) -> Result<MemCommand, WorldFault> {
     let path = text_of(alloc, path)?;
     Ok(Command::MayPut { place, path })
 }
@@ -122,7 +121,7 @@ fn at_repository(alloc: Global, repo: &str, ask: Ask<'_>) -> Result<MemCommand, 
 }
 
 /// The command that is asked; the bytes of a file are stored first.
-pub(crate) fn command_of(
+pub fn command_of(
     alloc: Global,
     blobs: &mut MemBlobs,
     ask: Ask<'_>,

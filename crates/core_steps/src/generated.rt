@@ -4,7 +4,7 @@ ghost use Rattle.std.specs.Prelude.{◌<◌};
 use crate::asks::Ask;
 use crate::faults::WorldFault;
 use crate::plain::{Plain, takes};
-use crate::worlds::{Cores, World};
+use crate::steps::Cores;
 use repo_model::Question;
 use std::alloc::Global;
 
@@ -89,14 +89,14 @@ fn counted((files, refused): Counts, answer: &str) -> Counts {
 
 /// The core and the plain machine, which are given the same commands, and how they answered.
 #[derive(Drop)]
-struct Pair<W: Cores + Drop> {
+struct Pair<W: Cores> {
     numbers: Numbers,
     plain: Plain,
     world: W,
     counts: Counts,
 }
 
-impl<W: Cores + Drop> Pair<W> {
+impl<W: Cores> Pair<W> {
     /// Gives both one command more. Whether they answer alike.
     fn go(&mut self) -> Result<bool, WorldFault> {
         let ask: Ask<'static> = self.numbers.next_ask(&self.plain.drafts);
@@ -118,7 +118,7 @@ impl<W: Cores + Drop> Pair<W> {
 }
 
 // The first of so many commands that the core of a new world answers otherwise, and the counts.
-fn compared<W: Cores + Drop>(
+fn compared<W: Cores>(
     alloc: Global,
     world: W,
     count: u64,
@@ -140,8 +140,12 @@ fn compared<W: Cores + Drop>(
 
 /// What is told of so many generated commands: `alike` where the core answers each as the plain machine does, and many files were
 /// given and many refused.
-pub(crate) fn told_of_generated(alloc: Global, count: u64) -> Result<&'static str, WorldFault> {
-    match compared(alloc, World::new(alloc, &[])?, count)? {
+pub(crate) fn told_of_generated<W: Cores>(
+    world: &W,
+    alloc: Global,
+    count: u64,
+) -> Result<&'static str, WorldFault> {
+    match compared(alloc, world.another()?, count)? {
         (None, (200.., 200..)) => Ok("alike"),
         (None, _) => Ok("too few files"),
         (Some(_), _) => Ok("other"),

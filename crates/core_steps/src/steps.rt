@@ -3,11 +3,63 @@ use crate::asks::Ask;
 use crate::faults::WorldFault;
 use crate::generated::told_of_generated;
 use crate::replies::digest_of;
-use crate::worlds::Cores;
 use mvn_coords::Side;
 use mvn_digest::{Digest, read_side};
 use repo_model::{Item, Question};
 use std::alloc::{AllocError, Global};
+
+/// Cores over memory, one after the other. The steps of a case know no more of a world, so that what a core promises is not carried
+/// through them.
+pub trait Cores: Drop {
+    /// Begins again: nothing is recorded or stored, and no core runs. The calls of the store with these numbers fail; the first has the
+    /// number 0.
+    fn renew(&mut self, failing: &[u64]) -> Result<(), WorldFault>;
+
+    /// Another world: nothing is recorded or stored in it, and no core runs.
+    fn another(&self) -> Result<Self, WorldFault>;
+
+    /// A start by a clock from this moment, each so many seconds after the one before: what it came to.
+    fn start(&mut self, settings: &[u8], at: u64, step: u64) -> Result<String, WorldFault>;
+
+    /// A start by a clock that stands at the first of these moments and tells the others, of which the last is repeated: what it came to.
+    fn start_at(&mut self, settings: &[u8], moments: &[u64]) -> Result<String, WorldFault>;
+
+    /// Ends the core that runs.
+    fn stop(&mut self) -> Result<(), WorldFault>;
+
+    /// How many calls the core had that was ended last, and what its clock then told.
+    fn ended(&self) -> (u64, u64);
+
+    /// The items that are recorded, while no core runs.
+    fn items(&self) -> Result<&[Item], WorldFault>;
+
+    /// New records, of which these calls fail.
+    fn fail_at(&mut self, failing: &[u64]) -> Result<(), WorldFault>;
+
+    /// The blobs that were removed from the store, in their order, and those that are there.
+    fn told_blobs(&mut self) -> Result<String, WorldFault>;
+
+    /// Stores bytes past the core.
+    fn store(&mut self, blob: u64, bytes: &[u8]) -> Result<(), WorldFault>;
+
+    /// Removes a blob past the core.
+    fn remove(&mut self, blob: u64) -> Result<(), WorldFault>;
+
+    /// Whether a command meets its condition.
+    fn fits(&mut self, ask: Ask<'_>) -> Result<bool, WorldFault>;
+
+    /// The reply to a command, in words; `unfit` where it does not meet its condition.
+    fn ask(&mut self, ask: Ask<'_>) -> Result<String, WorldFault>;
+
+    /// Keeps the parcel of a file that is there; whether there is one.
+    fn borrow(&mut self, repo: &str, path: &str) -> Result<bool, WorldFault>;
+
+    /// The bytes of the parcel that is kept.
+    fn read(&mut self) -> Result<Vec<u8>, WorldFault>;
+
+    /// Whether a session gives the draft of a number at a path of its own, and takes a file without bytes there.
+    fn stages(&mut self, session: u64, number: u64) -> Result<bool, WorldFault>;
+}
 
 /// The number that a word is.
 pub(crate) fn number_of(word: &str) -> Result<u64, WorldFault> {
@@ -45,7 +97,7 @@ pub(crate) fn said_by(word: &str) -> Result<Digest, WorldFault> {
     read.ok_or(WorldFault::NoStep)
 }
 
-/// The command at a repository that these words are.
+/// The command that these words are.
 fn ask_of<'a>(key: &str, words: &'a [String]) -> Result<Ask<'a>, WorldFault> {
     match (key, words) {
         ("look", [repo, path]) => Ok(Ask::Look(repo.as_str(), path.as_str())),
@@ -58,6 +110,16 @@ fn ask_of<'a>(key: &str, words: &'a [String]) -> Result<Ask<'a>, WorldFault> {
             draft_of(draft.as_str())?,
             words,
         )),
+        ("unlist", [repo]) => Ok(Ask::Unlist(repo.as_str())),
+        ("open", [repo]) => Ok(Ask::Open(repo.as_str())),
+        ("collect", []) => Ok(Ask::Collect),
+        _ => put_of(key, words),
+    }
+}
+
+/// What is put at a repository, or another command that these words are.
+fn put_of<'a>(key: &str, words: &'a [String]) -> Result<Ask<'a>, WorldFault> {
+    match (key, words) {
         ("may-put", [repo, path]) => Ok(Ask::MayPut(repo.as_str(), path.as_str())),
         ("put", [repo, path, draft, bytes]) => Ok(Ask::Put(
             repo.as_str(),
@@ -71,14 +133,18 @@ fn ask_of<'a>(key: &str, words: &'a [String]) -> Result<Ask<'a>, WorldFault> {
             said_by(said.as_str())?,
         )),
         ("put-document", [repo, path]) => Ok(Ask::PutDoc(repo.as_str(), path.as_str())),
-        ("unlist", [repo]) => Ok(Ask::Unlist(repo.as_str())),
-        ("open", [repo]) => Ok(Ask::Open(repo.as_str())),
-        ("collect", []) => Ok(Ask::Collect),
-        (name, []) => match Question::named(name) {
+        _ => other_of(key, words),
+    }
+}
+
+/// The question of this name, or the command of a number that these words are.
+fn other_of<'a>(key: &str, words: &'a [String]) -> Result<Ask<'a>, WorldFault> {
+    match words {
+        [] => match Question::named(key) {
             Some(question) => Ok(Ask::Question(question)),
             None => Err(WorldFault::NoStep),
         },
-        (word, [number, rest @ ..]) => numbered(word, number_of(number.as_str())?, rest),
+        [number, rest @ ..] => numbered(key, number_of(number.as_str())?, rest),
     }
 }
 
@@ -176,7 +242,7 @@ fn seen<W: Cores>(
         }
         ("blobs", []) => Ok(Some(world.told_blobs()?)),
         ("generated", [count]) => {
-            let told: &str = told_of_generated(alloc, number_of(count.as_str())?)?;
+            let told: &str = told_of_generated(world, alloc, number_of(count.as_str())?)?;
             Ok(Some(String::from_str(alloc, told)?))
         }
         ("read", []) => Ok(Some(String::from_utf8_lossy(alloc, world.read()?.as_slice())?)),
@@ -258,7 +324,7 @@ fn judged<W: Cores>(
 }
 
 /// Takes the step of a word and of those behind it: what is told of it.
-pub(crate) fn take<W: Cores>(
+pub fn take<W: Cores>(
     world: &mut W,
     alloc: Global,
     key: &str,

@@ -4,8 +4,7 @@ use crate::commands::parcel_of;
 use ids::Id;
 use outside::Parcel;
 use outside_memory::{FaultScript, MemBlobs, MemHeld};
-use repo_core::{Command, Place};
-use repo_model::{Numbers, Question};
+use repo_model::{Command, Numbers, Place, Question};
 use std::alloc::{AllocError, Global};
 use texts::Text;
 
@@ -21,6 +20,7 @@ pub struct Maker {
 }
 
 impl Maker {
+    /// What makes the commands about these rows; nothing is stored yet.
     pub fn new(alloc: Global, rows: Rows) -> Maker {
         Maker {
             alloc,

@@ -4,8 +4,7 @@ use fetch_plan::Plan;
 use mvn_coords::Side;
 use mvn_digest::{Digest, Digests, Hashes, side_text};
 use outside_memory::MemHeld;
-use repo_core::{Damaged, Reply, StartFault};
-use repo_model::{Finding, Print, SessionResult};
+use repo_model::{Finding, Print, Reply, SessionResult};
 use std::alloc::Global;
 
 fn text_of(alloc: Global, text: &str) -> Result<String, WorldFault> {
@@ -53,7 +52,7 @@ pub(crate) fn digest_of(alloc: Global, digest: &Digest) -> Result<String, WorldF
 }
 
 /// Numbers, each behind a blank.
-pub(crate) fn numbers_of(alloc: Global, numbers: &[u64]) -> Result<String, WorldFault> {
+pub fn numbers_of(alloc: Global, numbers: &[u64]) -> Result<String, WorldFault> {
     let mut told: String = String::new(alloc);
     for number in numbers {
         write!(told, " {number}")?;
@@ -156,7 +155,7 @@ fn plan_of(alloc: Global, plan: &Plan) -> Result<String, WorldFault> {
 }
 
 /// A reply, in words.
-pub(crate) fn told(alloc: Global, reply: &Reply<MemHeld>) -> Result<String, WorldFault> {
+pub fn told(alloc: Global, reply: &Reply<MemHeld>) -> Result<String, WorldFault> {
     match reply {
         Reply::File { lease, parcel } => {
             let blob: u64 = parcel.blob;
@@ -188,26 +187,5 @@ pub(crate) fn told(alloc: Global, reply: &Reply<MemHeld>) -> Result<String, Worl
             Ok(format!(in alloc; "differs {said} {kept}")?)
         }
         _ => told_numbers(alloc, reply),
-    }
-}
-
-fn damage_of(alloc: Global, damaged: &Damaged) -> Result<String, WorldFault> {
-    let repo: &str = damaged.repo.as_str();
-    let path: &str = damaged.path.as_str();
-    let recorded: u64 = damaged.recorded.length;
-    let found: String = match &damaged.found {
-        Some(print) => number_of(alloc, "found", print.length)?,
-        None => text_of(alloc, "found none")?,
-    };
-    Ok(format!(in alloc; "damaged {repo} {path} recorded {recorded} {found}")?)
-}
-
-/// What a start came to, in words.
-pub(crate) fn told_start(alloc: Global, fault: &Option<StartFault>) -> Result<String, WorldFault> {
-    match fault {
-        None => text_of(alloc, "started"),
-        Some(StartFault::Store) => text_of(alloc, "store-fault"),
-        Some(StartFault::Damaged(damaged)) => damage_of(alloc, damaged),
-        Some(_) => text_of(alloc, "refused"),
     }
 }

@@ -5,8 +5,7 @@ use crate::steps::{number_of, said_by};
 use fetch_plan::{Outcome, Plan};
 use mvn_doc::read;
 use outside_memory::{MemBlobs, MemHeld};
-use repo_core::Command;
-use repo_model::Got;
+use repo_model::{Command, Got};
 use std::alloc::Global;
 
 type MemOutcome = Outcome<Got<MemHeld>>;

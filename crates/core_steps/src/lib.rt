@@ -1,0 +1,25 @@
+//! Steps of cases in words, over cores as a trait: the commands that they are, what is replied in words, and a plain machine that
+//! answers generated commands beside. What a bench makes its commands of stands here too. Nothing here names the repository that
+//! takes the commands.
+#![tactic(auto)]
+
+mod asks;
+mod bench_commands;
+mod bench_rows;
+mod bench_steps;
+mod commands;
+mod faults;
+mod fetched;
+mod generated;
+mod plain;
+mod replies;
+mod steps;
+
+pub use asks::Ask;
+pub use bench_commands::Maker;
+pub use bench_rows::Rows;
+pub use bench_steps::{Form, Step};
+pub use commands::{command_of, may_put, parcel_of, stage};
+pub use faults::WorldFault;
+pub use replies::{numbers_of, told};
+pub use steps::{Cores, take};
