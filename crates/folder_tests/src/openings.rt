@@ -206,11 +206,13 @@ fn contents_that_may_not_be_written_are_refused(rt: HostRuntime) {
     assert!(rt; clears(&rt, WRITES));
 }
 
-// Whether a disk begins with these bytes.
+// Whether a disk begins with these bytes, read from the first and from the last of them on.
 fn gives<D: Disk>(disk: &mut D, bytes: [u8; 3]) -> bool {
-    let mut buffer = [0; 3];
-    let read = disk.read(0, &mut buffer).is_ok();
-    read && buffer == bytes
+    let mut all = [0; 3];
+    let mut last = [0; 1];
+    let read = disk.read(0, &mut all).is_ok();
+    let read_on = disk.read(2, &mut last).is_ok();
+    read && read_on && all == bytes && last[0] == bytes[2]
 }
 
 const LOCKED: &str = "folder_tests_locked";
