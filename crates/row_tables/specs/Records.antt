@@ -1,7 +1,7 @@
--- What the answers of records say of their count of faults, and which of them are refusals.
+-- What the answers of records say of their count of faults, which of them are refusals, and what records in memory are.
 use Rattle.std.specs.Prelude.{◌≡◌, ℕ, List, Result, Ok, Err}
 use Rattle.outside.specs.Faults.{Rose}
-use Rattle.outside_memory.specs.Script.{Script}
+use Rattle.outside_memory.specs.Script.{Script, script_failed, script_passed}
 use Rattle.repo_model.specs.declared.item.Item.{Item}
 use Rattle.repo_model.specs.Tables.{Tables}
 use Rattle.row_tables.specs.declared.faults.CommitFault.{CommitFault}
@@ -46,3 +46,17 @@ LoadsUnlessFailed expected (Err (Row frame at)) = expected ≡ Err (Row frame at
 pub record MemState : Type 0 where
   pub items : List Item
   pub script : Script
+
+-- after a load with this answer: a refusal and want of memory are no failures
+abbrev pub script_after_load : {T : Type 0} → Script → Result T LoadFault → Script
+script_after_load script (Ok value) = script_passed script
+script_after_load script (Err Failed) = script_failed script
+script_after_load script (Err NoMemory) = script_passed script
+script_after_load script (Err NotOurs) = script_passed script
+script_after_load script (Err (Row frame at)) = script_passed script
+
+-- after a commit with this answer
+abbrev pub script_after_commit : {T : Type 0} → Script → Result T CommitFault → Script
+script_after_commit script (Ok value) = script_passed script
+script_after_commit script (Err commit.Failed) = script_failed script
+script_after_commit script (Err commit.NoMemory) = script_passed script

@@ -1,26 +1,25 @@
-ghost use Rattle.std.specs.Prelude.{◌≡◌, [], Some, Ok, List, ℕ, OnOk, OnErr, IsErrOf, Contains};
-ghost use Rattle.outside.specs.Faults.{HasCause};
+ghost use Rattle.std.specs.Prelude.{◌≡◌, ◌↔◌, ◌++◌, [], Some, Ok, OnOk, OnErr, IfOk, IsErrOf, Contains};
 ghost use Rattle.outside_memory.specs.Script.{script_of};
-ghost use Rattle.repo_model.specs.Tables.{no_tables};
+ghost use Rattle.repo_model.specs.Tables.{applied, no_tables};
 ghost use Rattle.row_tables.specs.Applying.{with_items};
+ghost use Rattle.row_tables.specs.Recorded.{IsBuiltUp};
+ghost use Rattle.row_tables.specs.Records.{HasCommitCause, HasLoadCause, LoadsUnlessFailed, script_after_commit, script_after_load};
 
 use crate::change::Change;
 use crate::copies::copied_items;
 use crate::faults::{ApplyFault, CommitFault, LoadFault};
 use crate::records::Records;
 use crate::tables::Tables;
-use outside::Failed;
+use outside_memory::FaultScript;
 use repo_model::Item;
 use std::alloc::Global;
 use std::marker::Model;
 
-/// Records in memory. Some of their calls fail, the first call having the number 0.
+/// Records in memory, whose calls fail as a script says.
 #[derive(Drop)]
 pub struct MemRecords {
     items: Vec<Item>,
-    failing: Vec<u64>,
-    calls: u64,
-    faults: u64,
+    script: FaultScript,
 }
 
 impl Model for MemRecords {
@@ -30,34 +29,19 @@ impl Model for MemRecords {
 
     ghost use Rattle.row_tables.specs.Recorded.{AreRecorded};
 
-    ghost view = { λ m. record { items = m.items.items; script = record { failing = m.failing.items; calls = m.calls; faults = m.faults } } };
+    ghost view = { λ m. record { items = m.items.items; script = m.script } };
 
     ghost invariant = { λ m. AreRecorded m.items.items };
 }
 
-// The next call: whether it goes through.
-fn next_call(failing: &[u64], calls: &mut u64, faults: &mut u64) -> Result<(), Failed>
-    ensures { HasCause faults.old faults.new result }
-{
-    let fails = failing.contains(calls);
-    *calls = calls.saturating_add(1);
-    if fails {
-        *faults = faults.saturating_add(1);
-        return Err(Failed);
-    }
-    Ok(())
-}
-
 impl MemRecords {
-    /// Nothing is recorded; the calls with these numbers fail, in any order.
+    /// Nothing is recorded; the calls with these numbers fail, in any order. Loads and commits are counted together, from 0 on.
     pub fn new(alloc: Global, failing: Vec<u64>) -> MemRecords
         ensures { result ≡ record { items = []; script = script_of failing.items } }
     {
         MemRecords {
             items: Vec::new(alloc),
-            failing,
-            calls: 0,
-            faults: 0,
+            script: FaultScript::failing_at(failing),
         }
     }
 
@@ -80,8 +64,14 @@ impl Records for MemRecords {
 
     ghost rests = { λ m ready t told. tt };
 
-    fn load(&mut self, alloc: Global) -> Result<Tables, LoadFault> {
-        if next_call(&self.failing, &mut self.calls, &mut self.faults).is_err() {
+    fn load(&mut self, alloc: Global) -> Result<Tables, LoadFault>
+        ensures cause { HasLoadCause self.old.script.faults self.new.script.faults result }
+        ensures when { IsErrOf result LoadFault.Failed ↔ Contains self.old.script.failing self.old.script.calls }
+        ensures built { IfOk result IsBuiltUp }
+        ensures loads { LoadsUnlessFailed (Ok (with_items no_tables self.old.items)) result }
+        ensures after { self.new ≡ record self.old { script = script_after_load self.old.script result } }
+    {
+        if self.script.next_call().is_err() {
             return Err(LoadFault::Failed);
         }
         let mut tables = Tables::new(alloc);
@@ -92,8 +82,15 @@ impl Records for MemRecords {
         }
     }
 
-    fn commit(&mut self, alloc: Global, change: &Change) -> Result<(), CommitFault> {
-        if next_call(&self.failing, &mut self.calls, &mut self.faults).is_err() {
+    fn commit(&mut self, alloc: Global, change: &Change) -> Result<(), CommitFault>
+        requires fits { applied (with_items no_tables self.old.items) change.now ≡ Ok (with_items (with_items no_tables self.old.items) change.now) }
+        ensures cause { HasCommitCause self.old.script.faults self.new.script.faults result }
+        ensures when { IsErrOf result CommitFault.Failed ↔ Contains self.old.script.failing self.old.script.calls }
+        ensures ok { OnOk result (self.new.items ≡ self.old.items ++ change.now) }
+        ensures err { OnErr result (self.new.items ≡ self.old.items) }
+        ensures script { self.new.script ≡ script_after_commit self.old.script result }
+    {
+        if self.script.next_call().is_err() {
             return Err(CommitFault::Failed);
         }
         let mut items = copied_items(alloc, change.items())?;
