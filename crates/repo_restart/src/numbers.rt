@@ -7,12 +7,10 @@ ghost use Rattle.repo_model.specs.Tables.{RecordedRow};
 ghost use Rattle.row_tables.specs.Stored.{shown_rows};
 
 use outside::NoMemory;
+use repo_model::NUMBER_END;
 use row_tables::{FileRow, Place, Tables};
 use std::alloc::Global;
 use std::collections::BTreeMap;
-
-// The numbers of blobs, of drafts among them, end below this one.
-const NUMBER_END: u64 = 9_223_372_036_854_775_808;
 
 // Adds the numbers of the blobs of some rows.
 fn push_numbers(numbers: &mut Vec<u64>, rows: &BTreeMap<Place, FileRow>) -> Result<(), NoMemory>

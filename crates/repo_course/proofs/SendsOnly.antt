@@ -30,7 +30,7 @@ use Rattle.repo_course.specs.declared.fetched.Verdict.{Verdict}
 use Rattle.repo_course.specs.declared.manner.Manner.{Manner}
 use Rattle.repo_course.specs.declared.said.Said.{Said}
 use Rattle.repo_course.specs.declared.said.Said.TheVariants as said
-use Rattle.repo_server.specs.Lent.{SendsOnly}
+use Rattle.repo_course.specs.SendsOnly.{SendsOnly}
 
 module _ (Holds : Blob → Type 0) where
   answers-send : (manner : Manner) (what : Said) → SendsOnly Holds (answers manner what)
