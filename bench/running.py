@@ -14,7 +14,7 @@ import time
 
 HERE = os.path.dirname(os.path.abspath(__file__))
 PROGRAM = os.path.join(HERE, "..", "crates", "mvnrepod", "out", "mvnrepod")
-DIGESTS = os.path.join(HERE, "..", "crates", "digest_bench", "out", "digest_bench")
+DIGESTS = os.path.join(HERE, "..", "crates", "maven_cases", "out", "maven_cases")
 
 NGINX = """
 worker_processes 4;

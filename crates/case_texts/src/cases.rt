@@ -93,7 +93,7 @@ pub struct Case {
     pub step: u64,
     pub stored: Vec<Stored>,
     /// What the first blob gives when it is read, in place of what is stored; no byte for that. Where there is any, no run of the
-    /// program is made, and a core over such blobs serves the connection.
+    /// program is made, and one core serves all connections.
     pub given: Vec<u8>,
     /// The input of an earlier run over the same records and blobs; no byte for none.
     pub before: Vec<u8>,

@@ -66,7 +66,7 @@ pub use cases::{Case, Link, Pieces, Script, Stored};
 pub use entries::{EntriesFault, Entry, read_entries};
 pub use escapes::{WrittenFault, push_line, written};
 pub use failures::Object;
-pub use programs::{Judge, follow_files, parted, run_both, run_judge, run_steps, status_of};
+pub use programs::{Judge, follow_before, follow_files, judge_files, parted, run_steps, status_of};
 pub use reading::{CaseFault, Refusal, read_cases};
 pub use steps::{Steps, Tale, Told};
 pub use went::{Went, wrong_blobs, wrong_link, wrong_run};

@@ -65,8 +65,9 @@ fn judge_text<J: Judge>(
     Ok(all)
 }
 
-/// Judges the cases of these files, or of the standard input where there is none. Whether all go as they have to.
-fn judge_files<J: Judge>(
+/// Judges the cases of these files, or of the standard input where there is none, and prints `ok NAME` for each that goes as it has to,
+/// and how the others go wrong. Whether all go as they have to.
+pub fn judge_files<J: Judge>(
     rt: &(impl AllocGlobal + Files + Input + Print),
     judge: &mut J,
     files: &[String],
@@ -90,17 +91,6 @@ pub fn status_of(all: bool) -> ExitCode {
     } else {
         ExitCode::FAILURE
     }
-}
-
-/// A program that judges the cases of the files that its words name, or of the standard input where there is none, and prints `ok NAME`
-/// for each that goes as it has to, and how the others go wrong. Its status is 0 where all go as they have to, and 1 where one does not
-/// or a file is refused.
-pub fn run_judge<J: Judge>(
-    rt: &(impl AllocGlobal + Env + Files + Input + Print),
-    judge: &mut J,
-) -> io::Result<ExitCode> {
-    let files: Vec<String> = env::args(rt)?.skip(1).collect(rt.alloc())?;
-    Ok(status_of(judge_files(rt, judge, files.as_slice())?))
 }
 
 /// Follows the cases of steps in these files, or in the standard input where there is none, each to the first step of which something
@@ -138,19 +128,22 @@ pub fn parted<'a>(words: &'a [String], mark: &str) -> (&'a [String], Option<&'a 
     (words, None)
 }
 
-/// A program that judges the cases of the files that its words name, and follows cases of steps in those that stand behind the word
-/// `--steps`. Its status is 0 where all go as they have to.
-pub fn run_both<J: Judge, S: Steps + Drop>(
-    rt: &(impl AllocGlobal + Env + Files + Input + Print),
-    judge: &mut J,
+/// Follows the cases of steps in the files that the words before a mark name, or in the standard input where there is neither a word
+/// nor the mark. The words behind the mark where all cases go as they have to; else the status of the program.
+pub fn follow_before<'a, S: Steps + Drop>(
+    rt: &(impl AllocGlobal + Files + Input + Print),
     steps: S,
-) -> io::Result<ExitCode> {
-    let files: Vec<String> = env::args(rt)?.skip(1).collect(rt.alloc())?;
-    let (cases, behind) = parted(files.as_slice(), "--steps");
-    let judged: bool = judge_files(rt, judge, cases)?;
-    let Some(behind) = behind else {
-        return Ok(status_of(judged));
+    words: &'a [String],
+    mark: &str,
+) -> io::Result<Result<&'a [String], ExitCode>> {
+    let (files, behind) = parted(words, mark);
+    let all: bool = if behind.is_some() && files.is_empty() {
+        true
+    } else {
+        follow_files(rt, steps, files)?
     };
-    let followed: bool = follow_files(rt, steps, behind)?;
-    Ok(status_of(judged && followed))
+    match behind {
+        Some(behind) if all => Ok(Ok(behind)),
+        _ => Ok(Err(status_of(all))),
+    }
 }

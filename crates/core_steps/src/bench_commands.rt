@@ -1,9 +1,9 @@
 use crate::bench_rows::Rows;
 use crate::bench_steps::Form;
+use crate::blobs::{CaseBlobs, CaseHeld};
 use crate::commands::parcel_of;
 use ids::Id;
 use outside::Parcel;
-use outside_memory::{FaultScript, MemBlobs, MemHeld};
 use repo_model::{Command, Numbers, Place, Question};
 use std::alloc::{AllocError, Global};
 use texts::Text;
@@ -16,7 +16,7 @@ const CONTENT: &[u8] = b"abc";
 pub struct Maker {
     alloc: Global,
     rows: Rows,
-    blobs: MemBlobs,
+    blobs: CaseBlobs,
 }
 
 impl Maker {
@@ -25,12 +25,12 @@ impl Maker {
         Maker {
             alloc,
             rows,
-            blobs: MemBlobs::new(alloc, FaultScript::none(alloc)),
+            blobs: CaseBlobs::new(alloc, Vec::new(alloc)),
         }
     }
 
     // A blob of its own, under a number. The store keeps the last one alone.
-    fn parcel(&mut self, blob: u64) -> Result<Parcel<MemHeld>, AllocError> {
+    fn parcel(&mut self, blob: u64) -> Result<Parcel<CaseHeld>, AllocError> {
         let Ok(mut parcel) = parcel_of(&mut self.blobs, 1, CONTENT) else {
             return Err(AllocError);
         };
@@ -46,7 +46,7 @@ impl Maker {
         Text::new(self.alloc, self.rows.path(self.alloc, n)?.as_str())
     }
 
-    fn look(&self, path: &str) -> Result<Command<MemHeld>, AllocError> {
+    fn look(&self, path: &str) -> Result<Command<CaseHeld>, AllocError> {
         Ok(Command::Look {
             repo: self.repo()?,
             path: Text::new(self.alloc, path)?,
@@ -55,7 +55,7 @@ impl Maker {
     }
 
     // A file at the path of the `n`th turn, under a draft: of the repository, or of the session 1.
-    fn file(&mut self, n: u64, draft: u64, staged: bool) -> Result<Command<MemHeld>, AllocError> {
+    fn file(&mut self, n: u64, draft: u64, staged: bool) -> Result<Command<CaseHeld>, AllocError> {
         let path = self.path(n)?;
         let parcel = self.parcel(draft)?;
         if staged {
@@ -80,7 +80,7 @@ impl Maker {
         form: Form,
         n: u64,
         number: u64,
-    ) -> Result<Command<MemHeld>, AllocError> {
+    ) -> Result<Command<CaseHeld>, AllocError> {
         match form {
             Form::Look | Form::Lease => self.look(self.rows.path(self.alloc, n)?.as_str()),
             Form::Document => self.look(self.rows.document(self.alloc, n)?.as_str()),

@@ -1,24 +1,25 @@
 // Commands of plain values.
 use crate::asks::Ask;
+use crate::blobs::{CaseBlobs, CaseHeld};
 use crate::faults::WorldFault;
 use crate::fetched::land;
 use crate::steps::numbers_of;
 use ids::Id;
 use mvn_digest::{Digest, Hashes};
 use outside::Parcel;
-use outside_memory::{MemBlobs, MemHeld, store_whole};
+use outside_memory::store_whole;
 use repo_model::{Command, Numbers, Place};
 use std::alloc::Global;
 use texts::Text;
 
-type MemCommand = Command<MemHeld>;
+type CaseCommand = Command<CaseHeld>;
 
 /// A parcel of these bytes, stored under a number.
 pub fn parcel_of(
-    blobs: &mut MemBlobs,
+    blobs: &mut CaseBlobs,
     blob: u64,
     bytes: &[u8],
-) -> Result<Parcel<MemHeld>, WorldFault> {
+) -> Result<Parcel<CaseHeld>, WorldFault> {
     let mut hashes = Hashes::new();
     hashes.update(bytes);
     let held = store_whole(blobs, blob, bytes)?;
@@ -39,19 +40,24 @@ fn place_at(alloc: Global, repo: &str) -> Result<Place, WorldFault> {
     Ok(Place::Repository(text_of(alloc, repo)?))
 }
 
-fn look(alloc: Global, repo: &str, path: &str, tried: &[String]) -> Result<MemCommand, WorldFault> {
+fn look(
+    alloc: Global,
+    repo: &str,
+    path: &str,
+    tried: &[String],
+) -> Result<CaseCommand, WorldFault> {
     let tried = Numbers::from_vec(numbers_of(alloc, tried)?);
     let repo = text_of(alloc, repo)?;
     let path = text_of(alloc, path)?;
     Ok(Command::Look { repo, path, tried })
 }
 
-fn unlist(alloc: Global, repo: &str) -> Result<MemCommand, WorldFault> {
+fn unlist(alloc: Global, repo: &str) -> Result<CaseCommand, WorldFault> {
     let repo = Id::from_text(text_of(alloc, repo)?);
     Ok(Command::Unlist { repo })
 }
 
-fn open(alloc: Global, repo: &str) -> Result<MemCommand, WorldFault> {
+fn open(alloc: Global, repo: &str) -> Result<CaseCommand, WorldFault> {
     let repo = text_of(alloc, repo)?;
     Ok(Command::Open { repo })
 }
@@ -60,8 +66,8 @@ fn put(
     alloc: Global,
     repo: &str,
     path: &str,
-    parcel: Parcel<MemHeld>,
-) -> Result<MemCommand, WorldFault> {
+    parcel: Parcel<CaseHeld>,
+) -> Result<CaseCommand, WorldFault> {
     let repo = text_of(alloc, repo)?;
     let path = text_of(alloc, path)?;
     Ok(Command::Put {
@@ -77,8 +83,8 @@ pub fn stage(
     alloc: Global,
     session: u64,
     path: &str,
-    parcel: Parcel<MemHeld>,
-) -> Result<MemCommand, WorldFault> {
+    parcel: Parcel<CaseHeld>,
+) -> Result<CaseCommand, WorldFault> {
     let path = text_of(alloc, path)?;
     Ok(Command::Stage {
         session,
@@ -89,7 +95,7 @@ pub fn stage(
 }
 
 /// The command that asks for a draft.
-pub fn may_put(alloc: Global, place: Place, path: &str) -> Result<MemCommand, WorldFault> {
+pub fn may_put(alloc: Global, place: Place, path: &str) -> Result<CaseCommand, WorldFault> {
     let path = text_of(alloc, path)?;
     Ok(Command::MayPut { place, path })
 }
@@ -99,18 +105,18 @@ fn put_side(
     place: Place,
     path: &str,
     said: Digest,
-) -> Result<MemCommand, WorldFault> {
+) -> Result<CaseCommand, WorldFault> {
     let path = text_of(alloc, path)?;
     Ok(Command::PutSide { place, path, said })
 }
 
-fn put_doc(alloc: Global, place: Place, path: &str) -> Result<MemCommand, WorldFault> {
+fn put_doc(alloc: Global, place: Place, path: &str) -> Result<CaseCommand, WorldFault> {
     let path = text_of(alloc, path)?;
     Ok(Command::PutDoc { place, path })
 }
 
 // A command at a place in a repository.
-fn at_repository(alloc: Global, repo: &str, ask: Ask<'_>) -> Result<MemCommand, WorldFault> {
+fn at_repository(alloc: Global, repo: &str, ask: Ask<'_>) -> Result<CaseCommand, WorldFault> {
     let place = place_at(alloc, repo)?;
     match ask {
         Ask::MayPut(_, path) => may_put(alloc, place, path),
@@ -123,9 +129,9 @@ fn at_repository(alloc: Global, repo: &str, ask: Ask<'_>) -> Result<MemCommand, 
 /// The command that is asked; the bytes of a file are stored first.
 pub fn command_of(
     alloc: Global,
-    blobs: &mut MemBlobs,
+    blobs: &mut CaseBlobs,
     ask: Ask<'_>,
-) -> Result<MemCommand, WorldFault> {
+) -> Result<CaseCommand, WorldFault> {
     match ask {
         Ask::Look(repo, path) => look(alloc, repo, path, &[]),
         Ask::LookAgain(repo, path, tried) => look(alloc, repo, path, tried),
@@ -151,9 +157,9 @@ pub fn command_of(
 
 fn session_command_of(
     alloc: Global,
-    blobs: &mut MemBlobs,
+    blobs: &mut CaseBlobs,
     ask: Ask<'_>,
-) -> Result<MemCommand, WorldFault> {
+) -> Result<CaseCommand, WorldFault> {
     match ask {
         Ask::MayStage(number, path) => may_put(alloc, Place::Session(number), path),
         Ask::Stage(session, path, draft, bytes) => {

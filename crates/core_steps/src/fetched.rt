@@ -1,14 +1,14 @@
 // What came of a fetch, in words.
+use crate::blobs::{CaseBlobs, CaseHeld};
 use crate::commands::{parcel_of, text_of};
 use crate::faults::WorldFault;
 use crate::steps::{number_of, said_by};
 use fetch_plan::{Outcome, Plan};
 use mvn_doc::read;
-use outside_memory::{MemBlobs, MemHeld};
 use repo_model::{Command, Got};
 use std::alloc::Global;
 
-type MemOutcome = Outcome<Got<MemHeld>>;
+type CaseOutcome = Outcome<Got<CaseHeld>>;
 
 /// The plan of a proxy's remote in the cases.
 fn plan_of(alloc: Global, proxy: &str, path: &str, draft: Option<u64>) -> Result<Plan, WorldFault> {
@@ -25,7 +25,7 @@ fn plan_of(alloc: Global, proxy: &str, path: &str, draft: Option<u64>) -> Result
 }
 
 /// A document that a text is.
-fn document_of(alloc: Global, text: &str) -> Result<MemOutcome, WorldFault> {
+fn document_of(alloc: Global, text: &str) -> Result<CaseOutcome, WorldFault> {
     match read(alloc, text.as_bytes()) {
         Ok(doc) => Ok(Outcome::Got(Got::Doc(doc))),
         Err(_) => Err(WorldFault::NoStep),
@@ -35,9 +35,9 @@ fn document_of(alloc: Global, text: &str) -> Result<MemOutcome, WorldFault> {
 /// What came of a fetch: a file of these bytes, stored under a number, a document, or what the words say.
 fn outcome_of(
     alloc: Global,
-    blobs: &mut MemBlobs,
+    blobs: &mut CaseBlobs,
     words: &[String],
-) -> Result<MemOutcome, WorldFault> {
+) -> Result<CaseOutcome, WorldFault> {
     let [word, rest @ ..] = words else {
         return Err(WorldFault::NoStep);
     };
@@ -72,12 +72,12 @@ fn outcome_of(
 /// The command that lands what came of a fetch of a proxy's path, under a draft or under none.
 pub(crate) fn land(
     alloc: Global,
-    blobs: &mut MemBlobs,
+    blobs: &mut CaseBlobs,
     proxy: &str,
     path: &str,
     draft: Option<u64>,
     words: &[String],
-) -> Result<Command<MemHeld>, WorldFault> {
+) -> Result<Command<CaseHeld>, WorldFault> {
     let plan = plan_of(alloc, proxy, path, draft)?;
     let outcome = outcome_of(alloc, blobs, words)?;
     Ok(Command::Land { plan, outcome })

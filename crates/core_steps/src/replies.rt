@@ -1,9 +1,9 @@
 // What a core replies, in words.
+use crate::blobs::CaseHeld;
 use crate::faults::WorldFault;
 use fetch_plan::Plan;
 use mvn_coords::Side;
 use mvn_digest::{Digest, Digests, Hashes, side_text};
-use outside_memory::MemHeld;
 use repo_model::{Finding, Print, Reply, SessionResult};
 use std::alloc::Global;
 
@@ -60,7 +60,7 @@ pub fn numbers_of(alloc: Global, numbers: &[u64]) -> Result<String, WorldFault> 
     Ok(told)
 }
 
-fn word_of(reply: &Reply<MemHeld>) -> &'static str {
+fn word_of(reply: &Reply<CaseHeld>) -> &'static str {
     match reply {
         Reply::Missed => "missed",
         Reply::Done => "done",
@@ -89,7 +89,7 @@ fn word_of(reply: &Reply<MemHeld>) -> &'static str {
 }
 
 /// Replies of numbers alone; others are a word.
-fn told_numbers(alloc: Global, reply: &Reply<MemHeld>) -> Result<String, WorldFault> {
+fn told_numbers(alloc: Global, reply: &Reply<CaseHeld>) -> Result<String, WorldFault> {
     match reply {
         Reply::Draft(draft) => number_of(alloc, "draft", *draft),
         Reply::Opened(session) => number_of(alloc, "session", *session),
@@ -155,7 +155,7 @@ fn plan_of(alloc: Global, plan: &Plan) -> Result<String, WorldFault> {
 }
 
 /// A reply, in words.
-pub fn told(alloc: Global, reply: &Reply<MemHeld>) -> Result<String, WorldFault> {
+pub fn told(alloc: Global, reply: &Reply<CaseHeld>) -> Result<String, WorldFault> {
     match reply {
         Reply::File { lease, parcel } => {
             let blob: u64 = parcel.blob;

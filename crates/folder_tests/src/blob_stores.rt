@@ -7,7 +7,7 @@ ghost use Rattle.mvn_digest.specs.Digests.{digests_of as digests_in};
 use crate::places::{clears, holds, makes, puts, stands};
 use mvn_digest::{Digests, Hashes, Known};
 use outside::{BlobFault, Blobs, CheckFault, Parcel, Piece, adopt_checked};
-use outside_memory::{FaultScript, MemBlobs, WrongBlobs, read_whole, store_whole};
+use outside_memory::{FaultScript, MemBlobs, read_whole, store_whole};
 use outside_system::FolderBlobs;
 use std::alloc::{AllocError, Global};
 use std::fs::Files;
@@ -209,23 +209,13 @@ fn look<B: Blobs>(
     adopt_checked(blobs, number, 3, known, &mut room)
 }
 
-// A store that gives these bytes under 1.
-fn wrong_blobs(alloc: Global, bytes: &[u8]) -> Result<WrongBlobs, AllocError> {
-    let mut blobs = WrongBlobs::new(alloc, FaultScript::none(alloc));
-    blobs.give(1, bytes)?;
-    Ok(blobs)
-}
-
 // Whether a checked look at `abc` finds these bytes in place of it.
 fn finds(alloc: Global, bytes: &[u8], wanted: bool) -> bool {
     let abc = digests_of(b"abc").known();
-    match wrong_blobs(alloc, bytes) {
-        Ok(mut blobs) => {
-            let other = is_other(look(alloc, &mut blobs, 1, &abc), bytes);
-            other == wanted && blobs.faults() == 0
-        }
-        Err(_) => false,
-    }
+    let mut blobs = MemBlobs::new(alloc, FaultScript::none(alloc));
+    let stored = stores(&mut blobs, 1, bytes).is_ok();
+    let other = is_other(look(alloc, &mut blobs, 1, &abc), bytes);
+    stored && other == wanted && blobs.faults() == 0
 }
 
 #[test]
@@ -263,17 +253,6 @@ fn is_checked(answer: Result<bool, CheckFault>) -> bool {
     matches!(answer, Ok(true))
 }
 
-fn wrong_gives_abc(alloc: Global) -> bool {
-    match wrong_blobs(alloc, b"abc") {
-        Ok(mut blobs) => {
-            let listed = is_so(lists(&mut blobs, &[1]));
-            let adopted = is_checked(adopts_abc(alloc, &mut blobs));
-            listed && adopted
-        }
-        Err(_) => false,
-    }
-}
-
 fn memory_gives_abc(alloc: Global) -> bool {
     let mut blobs = MemBlobs::new(alloc, FaultScript::none(alloc));
     let stored = stores(&mut blobs, 1, b"abc").is_ok();
@@ -283,6 +262,5 @@ fn memory_gives_abc(alloc: Global) -> bool {
 
 #[test]
 fn the_recorded_bytes_are_given(rt: HostRuntime) {
-    assert!(rt; wrong_gives_abc(rt.alloc()));
     assert!(rt; memory_gives_abc(rt.alloc()));
 }

@@ -13,7 +13,7 @@ fn digests_of(pieces: &[String]) -> Digests {
     hashes.finish()
 }
 
-const SIDES: [Side; 4] = [Side::Sha1, Side::Md5, Side::Sha256, Side::Sha512];
+pub(crate) const SIDES: [Side; 4] = [Side::Sha1, Side::Md5, Side::Sha256, Side::Sha512];
 
 pub(crate) fn word_of(side: Side) -> &'static str {
     match side {

@@ -31,7 +31,7 @@ impl Model for MemHeld {
 
 impl MemHeld {
     // A blob of these bytes.
-    pub(crate) fn of_bytes(alloc: Global, bytes: &[u8]) -> Result<MemHeld, NoMemory>
+    fn of_bytes(alloc: Global, bytes: &[u8]) -> Result<MemHeld, NoMemory>
         ensures { IfOk result (λ held. held ≡ bytes.now) }
     {
         Ok(MemHeld {
@@ -39,7 +39,7 @@ impl MemHeld {
         })
     }
 
-    pub(crate) fn bytes(&self) -> &[u8]
+    fn bytes(&self) -> &[u8]
         ensures { result.now ≡ self.now }
     {
         self.bytes.as_slice()
@@ -82,7 +82,7 @@ impl Pen for MemPen {
 }
 
 // Copies what stands in `bytes` from a place on into the front of a buffer, as far as it fits, and says how many bytes.
-pub(crate) fn copy_from(bytes: &[u8], at: u64, buffer: &mut [u8]) -> usize
+fn copy_from(bytes: &[u8], at: u64, buffer: &mut [u8]) -> usize
     ensures count { result ≤ length buffer.new }
     ensures below { at + result ≤ length bytes.now ⊎ (result ≡ 0) }
     ensures part { IsPart bytes.now at result buffer.new }

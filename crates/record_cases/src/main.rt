@@ -9,15 +9,25 @@
 //! | `applied ITEM ..` | the first of these items of the first version that does not fit |
 //! | `completed ITEM .. then ITEM ..` | the same of items of the first version, and then of the second, and which rows have their further digests |
 //! | `load BYTES ..` | what a load of a journal with this file comes to, and the file that it leaves |
+//!
+//! Words behind `--bench`, with files before it or none, are those of changes of one row over a real file, for `bench/journal`: `commits`, `writes` or `load`, a folder,
+//! and how many changes, which `load` passes over. `commits` commits them to a journal in the folder's file `records`; `writes` puts the
+//! same bytes there by two writes and two syncs each. It prints how many rows a load of the file then gives. The status is 2 where they
+//! are none of these.
 #![tactic(auto)]
 
+mod bench;
 mod changes;
+mod commits;
 mod journals;
+mod rows;
+mod writes;
 
-use case_texts::{Steps, Tale, run_steps};
+use crate::bench::run_bench;
+use case_texts::{Steps, Tale, follow_before};
 use std::alloc::{AllocError, Global};
-use std::io;
 use std::process::ExitCode;
+use std::{env, io};
 
 /// Steps of which none changes what comes behind it.
 #[derive(Drop)]
@@ -37,5 +47,9 @@ impl Steps for Records {
 }
 
 fn main(rt: HostRuntime) -> io::Result<ExitCode> {
-    run_steps(&rt, Records)
+    let words: Vec<String> = env::args(&rt)?.skip(1).collect(rt.alloc())?;
+    match follow_before(&rt, Records, words.as_slice(), "--bench")? {
+        Ok(bench) => run_bench(&rt, bench),
+        Err(status) => Ok(status),
+    }
 }
