@@ -54,7 +54,7 @@ module _ (settings : Settings) where
           → RequestTurn settings tells last entries old new stop → AllAskWith [] entries
       turn-asks last entries old new stop fit t =
           let duty = owed settings t.2 in
-          follows-ask settings tells duty.by_text duty.manner t.0 duty.most duty.stand (keeps last old t.1 t.0 t.2) [] entries fit
+          follows-ask settings tells duty.by_text duty.mode t.0 duty.most duty.stand (keeps last old t.1 t.0 t.2) [] entries fit
           (λ n is. absurd (let no : duty.stand.draft ≡ None = none-held last old t.1 t.0 t.2 in cc)) t.1 new stop t.3
 
       pub record IsAnswered (n : ℕ) (past entries rest : List Entry) (old new : Outside) (ending : End) : Type 0 where

@@ -16,12 +16,12 @@ use Rattle.repo_laws.proofs.Answered.{reply-can_get}
 use Rattle.repo_laws.specs.Replies.{GivesDraft, is_under, leaves_drafts, spends, uses_draft}
 use Rattle.repo_laws.proofs.HoldingLists.{all-join, all-split}
 use Rattle.repo_course.specs.Course.{Close, Course, asks, does, says, stops}
-use Rattle.repo_course.specs.declared.manner.Manner.{Manner}
+use Rattle.repo_course.specs.declared.mode.ResponseMode.{ResponseMode}
 use Rattle.repo_course.specs.declared.outcomes.End.{End}
 use Rattle.repo_course.specs.Serving.{Follows, Outside}
 use Rattle.course_laws.specs.Duties.{Keeps, MayAsk, Stand, draft_after, left_by, spends_draft, stand_after, stand_done}
 use Rattle.answer_laws.specs.Why.{AsksWith, HasGiven}
-use Rattle.course_laws.proofs.Passes.{ArePass, IsPassCommand, deed-asks}
+use Rattle.course_laws.proofs.Passes.{ArePass, IsPassCommand, action-asks}
 
 -- so does each that is answered that there is none
 abbrev pub AllAskWith : List Entry → List Entry → Type 0
@@ -84,7 +84,7 @@ module _ (settings : Settings) where
   leaves-staged reply (inl free) is = (cc)
   leaves-staged reply (inr can) is = (cc)
 
-  -- a draft that is held behind an entry was held before it, and the entry has not spent it; or the entry gave it
+  -- a draft that is held after an entry was held before it, and the entry has not spent it; or the entry gave it
   abbrev Held : Command → Reply → Stand → ℕ → Type 0
   Held command reply s n = ((s.draft ≡ Some n) × ((uses_draft n command && not (leaves_drafts reply)) ≡ false)) ⊎ GivesDraft n reply
 
@@ -160,8 +160,8 @@ module _ (settings : Settings) where
   both-ask done (x ∷ xs) ys first rest =
       (first.0, both-ask (done ++ x ∷ []) xs ys first.1 (subst (λ (l : List Entry). AllAskWith l ys) (sym (append_assoc done (x ∷ []) xs)) rest))
 
-  module _ (tells : Type 0) (by_text : List ℕ → Option Close) (manner : Manner) where
-    pub follows-ask : (c : Course) (n : ℕ) (s : Stand) → Keeps by_text manner c n s → (done entries : List Entry) → AllByRecursion FitsOne entries → AreGiven s done
+  module _ (tells : Type 0) (by_text : List ℕ → Option Close) (mode : ResponseMode) where
+    pub follows-ask : (c : Course) (n : ℕ) (s : Stand) → Keeps by_text mode c n s → (done entries : List Entry) → AllByRecursion FitsOne entries → AreGiven s done
         → (old new : Outside) (end : Option End) → Follows tells c entries old new end → AllAskWith done entries
     follows-ask (asks command next) zero s k done [] fit given old new end f = absurd f
     follows-ask (asks command next) zero s k done (e ∷ es) fit given old new end f = absurd k
@@ -172,12 +172,12 @@ module _ (settings : Settings) where
           (λ none. let held = held-by e.command s may (no-draft-by e fit.0 none) (λ plan outcome is. land-drawn e fit.0 plan outcome is none) in record { number = held.0; asks = held.2; has = given held.0 held.1 }),
           follows-ask (next e.reply) n (stand_after command e.reply s) (k.1 e.reply) (done ++ e ∷ []) es fit.1 further old new end f.1,
         )
-    follows-ask (does deed next) n s k done entries fit given old new end f =
+    follows-ask (does io_action next) n s k done entries fit given old new end f =
         let cut = all-split FitsOne f.1 f.2 (subst (AllByRecursion FitsOne) f.4 fit) in
-        let pass = deed-asks tells deed f.0 f.1 old f.3 f.5 in
+        let pass = action-asks tells io_action f.0 f.1 old f.3 f.5 in
         subst (AllAskWith done) (sym f.4)
         (both-ask done f.1 f.2 (pass-asks done f.1 cut.0 pass)
-        (follows-ask (next f.0) (left_by deed n) (stand_done by_text deed f.0 s) (k.2 f.0) (done ++ f.1) f.2 cut.1
+        (follows-ask (next f.0) (left_by io_action n) (stand_done by_text io_action f.0 s) (k.2 f.0) (done ++ f.1) f.2 cut.1
         (λ m is. given-longer done f.1 m (pass-unspent m f.1 pass) (given m is)) f.3 new end f.6))
     follows-ask (says said own) n s k done entries fit given old new end f = subst (AllAskWith done) (sym f.0) tt
     follows-ask (stops stop) n s k done entries fit given old new end f = subst (AllAskWith done) (sym f.0) tt

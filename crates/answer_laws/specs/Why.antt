@@ -1,4 +1,4 @@
--- Why a turn of a served stream is answered as it is: the head, the reply or the deed that its answer is due for, and the cause of each
+-- Why a turn of a served stream is answered as it is: the head, the reply or the I/O action that its answer is due for, and the cause of each
 -- of its replies, in the state at the place of its entry in a history.
 use Rattle.std.specs.Prelude.{◌≡◌, ℕ, Bool, false, List, [], ◌∷◌, ◌++◌, Option, Some, None, IsTrue}
 use Rattle.std.specs.List.{AllByRecursion}
@@ -11,19 +11,19 @@ use Rattle.repo_laws.specs.Replies.{GivesDraft, is_refusal, spends, uses_draft}
 use Rattle.repo_routes.specs.Framing.{is_head}
 use Rattle.repo_routes.specs.Judge.{judge}
 use Rattle.repo_course.specs.Answers.{answer_of, at_end, memory_answer}
-use Rattle.repo_course.specs.Course.{Close, Course, Deed, Outcome, end_of, rests, says, speaks, stops}
+use Rattle.repo_course.specs.Course.{Close, Course, IoAction, Outcome, end_of, rests, says, speaks, stops}
 use Rattle.repo_course.specs.Serving.{Does, Opens, clean, torn, failed, refused, unread_head, starved, served, Outside, Says}
-use Rattle.repo_course.specs.declared.manner.Manner.{Manner}
+use Rattle.repo_course.specs.declared.mode.ResponseMode.{ResponseMode}
 use Rattle.repo_course.specs.declared.outcomes.End.{End}
 use Rattle.repo_course.specs.declared.outcomes.End.TheVariants as stream
-use Rattle.repo_course.specs.declared.said.Said.TheVariants as said
-use Rattle.course_laws.specs.Duties.{Duty, HoldsNothing, Rounds, Stand, due_after, due_done, rounds_after, duty_of, duty_without_head, manner_of, to_end}
+use Rattle.repo_course.specs.declared.response.Response.TheVariants as response
+use Rattle.course_laws.specs.Duties.{Duty, HoldsNothing, Rounds, Stand, due_after, due_done, rounds_after, duty_of, duty_without_head, mode_of, to_end}
 use Rattle.course_laws.specs.Endings.{NoneFell}
 use Rattle.closed_laws.specs.Streams.{Seen}
 use Rattle.answer_laws.specs.Marked.{Mark, entries_of, others_entry, IsAt}
 use Rattle.answer_laws.specs.Steps.{Leads, Step, asked, did, due_by, made, rounds_behind, rounds_by}
 
--- one of these entries gave the draft, and none behind it has spent it
+-- one of these entries gave the draft, and none after it has spent it
 pub record HasGiven (entries : List Entry) (n : ℕ) : Type 0 where
   pub first : List Entry
   pub given : Entry
@@ -32,7 +32,7 @@ pub record HasGiven (entries : List Entry) (n : ℕ) : Type 0 where
   pub draft_is : GivesDraft n given.reply
   pub unspent : AllByRecursion (λ (x : Entry). spends n x ≡ false) since
 
--- an entry behind these asks with such a draft
+-- an entry after these asks with such a draft
 pub record AsksWith (before : List Entry) (e : Entry) : Type 0 where
   pub number : ℕ
   pub asks : IsTrue (uses_draft number e.command)
@@ -58,27 +58,27 @@ abbrev pub AreSilent : (List ℕ → Option Close) → Rounds → List Step → 
 AreSilent by_text r [] = Unit {0}
 AreSilent by_text r (step ∷ steps) = (due_by by_text r step None ≡ None) × AreSilent by_text (rounds_by step r) steps
 
--- Why an end is due behind the steps of a turn, where this was due for its head: for the head, and no step makes another due; or for
--- just one of the steps, a reply that is answered, or a deed that failed, was the last one or refuses what it read. A reply that nothing is
--- there is answered by what the fetches before it came to. A deed's counts of faults lie between those before the turn and behind it.
+-- Why an end is due after the steps of a turn, where this was due for its head: for the head, and no step makes another due; or for
+-- just one of the steps, a reply that is answered, or an I/O action that failed, was the last one or refuses what it read. A reply that nothing is
+-- there is answered by what the fetches before it came to. An I/O action's counts of faults lie between those before the turn and after it.
 pub data Why (tells : Type 0) (by_text : List ℕ → Option Close) (r : Rounds) (due : Option Close) (steps : List Step) (old new : Outside) (close : Close) : Type 0 where
   by_head : due ≡ Some close → AreSilent by_text r steps → Why tells by_text r due steps old new close
   by_reply : (before behind : List Step) (e : Entry) → steps ≡ before ++ asked e ∷ behind → due ≡ None
       → due_after (rounds_behind before r) e.command e.reply None ≡ Some close → AreSilent by_text r before
       → AreSilent by_text (rounds_after e.command (rounds_behind before r)) behind → Why tells by_text r due steps old new close
-  by_deed : (before behind : List Step) (deed : Deed) (outcome : Outcome deed) (mine : List Entry) (from seen : Outside)
-      → steps ≡ before ++ did deed outcome mine seen ∷ behind → due ≡ None
-      → Does tells deed outcome mine from seen → NoneFell old from → NoneFell seen new
-      → due_done by_text deed outcome None ≡ Some close → AreSilent by_text r before → AreSilent by_text (rounds_behind before r) behind
+  by_io_action : (before behind : List Step) (io_action : IoAction) (outcome : Outcome io_action) (mine : List Entry) (from seen : Outside)
+      → steps ≡ before ++ did io_action outcome mine seen ∷ behind → due ≡ None
+      → Does tells io_action outcome mine from seen → NoneFell old from → NoneFell seen new
+      → due_done by_text io_action outcome None ≡ Some close → AreSilent by_text r before → AreSilent by_text (rounds_behind before r) behind
       → Why tells by_text r due steps old new close
 
--- How a course ends by what is due, where this body is not read: with an answer in the manner of the request, or with none, and then
+-- How a course ends by what is due, where this body is not read: with an answer in the mode of the request, or with none, and then
 -- the connection goes on only where the body was read.
-abbrev pub EndsBy : Manner → Option ℕ → Close → Course → Outside → Outside → Option End → Type 0
-EndsBy manner unread (speaks what) last mid new stop =
-    let own = manner_of what unread manner in
+abbrev pub EndsBy : ResponseMode → Option ℕ → Close → Course → Outside → Outside → Option End → Type 0
+EndsBy mode unread (speaks what) last mid new stop =
+    let own = mode_of what unread mode in
     (last ≡ says what own) × Says (answer_of what own) (memory_answer own.head_only) (end_of own) mid new stop
-EndsBy manner unread (rests next) last mid new stop = (last ≡ stops next) × (new ≡ mid) × (stop ≡ next) × (next ≡ None → unread ≡ None)
+EndsBy mode unread (rests next) last mid new stop = (last ≡ stops next) × (new ≡ mid) × (stop ≡ next) × (next ≡ None → unread ≡ None)
 
 -- A course is followed from where it stands, by steps of its own, to an end that is due, holding nothing; and why that is due, by what is
 -- seen from the first on.
@@ -93,7 +93,7 @@ pub record IsWalked (tells : Type 0) (duty : Duty) (c : Course) (s : Stand) (ent
   pub close : Close
   pub due : stand.due ≡ Some close
   pub why : Why tells duty.by_text s.rounds s.due steps first new close
-  pub ends : EndsBy duty.manner stand.unread close finish to new stop
+  pub ends : EndsBy duty.mode stand.unread close finish to new stop
 
 -- the entries of turns, one after another
 abbrev pub entries_in : List Seen → List Entry
@@ -107,8 +107,8 @@ module _ (settings : Settings) where
   owed (torn begins still is) = to_end (rests (Some stream.TornRequest)) (at_end false)
   owed (failed faults rose still is) = to_end (rests (Some stream.SourceFault)) (at_end false)
   owed (refused fault begins still is) = duty_without_head fault
-  owed (unread_head begins still is) = to_end (speaks said.NoMemory) (at_end false)
-  owed (starved head rest begins uses is) = to_end (speaks said.NoMemory) (at_end (is_head head))
+  owed (unread_head begins still is) = to_end (speaks response.NoMemory) (at_end false)
+  owed (starved head rest begins uses is) = to_end (speaks response.NoMemory) (at_end (is_head head))
   owed {last} (served head rest begins uses is) = duty_of (judge settings head) last
 
   -- A turn is opened by its head, makes the steps of its course, and ends as is due; and why.
@@ -119,8 +119,8 @@ module _ (settings : Settings) where
     pub walked : IsWalked tells (owed opens) course (owed opens).stand entries old mid new stop
 
   module _ (tells : Type 0) (start : State) (history : List Mark) where
-    -- An entry of a turn is the caller's own in the history, behind its entries before it and before those that follow, and fits the
-    -- state that all entries before it leave: so its reply is the one that is due there, or memory was wanting, or the records failed
+    -- An entry of a turn is the caller's own in the history, after its entries before it and before those that follow, and fits the
+    -- state that all entries before it leave: so its reply is the one that is due there, or memory ran out, or the records failed
     -- and their count has risen. Where it is refused, the cause is in that state; where it is told that there is no draft, another has
     -- spent it.
     pub record IsCaused (past done : List Entry) (e : Entry) (later : List Entry) : Type 0 where
@@ -129,12 +129,12 @@ module _ (settings : Settings) where
       pub cause : is_free e.reply ≡ false → IsTrue (is_refusal e.reply) → Cause settings (end settings start (entries_of at.before)) e.moment e.command e.reply
       pub spent : e.reply ≡ no_draft → IsSpentByAnother past done e at.before
 
-    -- so does each of a turn's entries, between the caller's before it and behind it
+    -- so does each of a turn's entries, between the caller's before it and after it
     abbrev pub AllCaused : List Entry → List Entry → List Entry → List Entry → Type 0
     AllCaused past done [] rest = Unit {0}
     AllCaused past done (e ∷ es) rest = IsCaused past done e (es ++ rest) × AllCaused past (done ++ e ∷ []) es rest
 
-    -- each of these turns, between the caller's entries before and behind the stream, ends so, and each of its entries is caused
+    -- each of these turns, between the caller's entries before and after the stream, ends so, and each of its entries is caused
     abbrev pub AllAnsweredByCause : List Entry → List Entry → Outside → List Seen → Type 0
     AllAnsweredByCause past rest old [] = Unit {0}
     AllAnsweredByCause past rest old (turn ∷ turns) =

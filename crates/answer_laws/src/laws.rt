@@ -13,7 +13,7 @@ ghost use Rattle.answer_laws.specs.Why.{AllAnsweredByCause};
 use outside::Held;
 
 /// A stream is a sequence of turns. Each is opened by its head, makes the steps of its request's course, whose entries are the turn's,
-/// and ends as is due for the head or for just one of the steps, in the manner of the request; a deed's counts of faults lie between
+/// and ends as is due for the head or for just one of the steps, in the mode of the request; an I/O action's counts of faults lie between
 /// the turn's. Each entry is the caller's own in the history, at its place among the caller's entries, and fits the state there: where
 /// the reply refuses the command, the cause is in that state; where it says that the records failed, their count has risen there; and
 /// where it says that there is no draft, an entry of another, between the turn's own one that gave it and this one, has spent it.

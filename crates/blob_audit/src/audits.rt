@@ -16,8 +16,8 @@ use std::alloc::Global;
 /// Loads the records and looks at every recorded file, of hosted repositories and of proxies: each blob is read once and compared
 /// with what was recorded of it. It changes neither the records nor the blobs.
 ///
-/// It fails where the records or the store fail, where the records are another's or cannot be read, and where memory is
-/// wanting.
+/// It fails where the records or the store fail, where the records are another's or cannot be read, and when
+/// memory runs out.
 pub fn audit<K: Records, B: Blobs>(
     alloc: Global,
     records: &mut K,

@@ -68,9 +68,9 @@ module _ {X : Type 0} where
         | false ↦ λ there at. found-above k n x es above.1 at
       ] refl is
 
-  -- what is found behind the first is found in the whole
-  pub found-behind : (n : ℕ) (x : X) (e : ℕ × X) (es : List (ℕ × X)) → AreRising (e ∷ es) → lookup (nat_eq n) es ≡ Some x → lookup (nat_eq n) (e ∷ es) ≡ Some x
-  found-behind n x e es up is = ap (λ b. cond b (Some e.1) (lookup (nat_eq n) es)) (less_eqb e.0 n (found-above e.0 n x es up.0 is)) ∙ is
+  -- what is found after the first is found in the whole
+  pub found-after : (n : ℕ) (x : X) (e : ℕ × X) (es : List (ℕ × X)) → AreRising (e ∷ es) → lookup (nat_eq n) es ≡ Some x → lookup (nat_eq n) (e ∷ es) ≡ Some x
+  found-after n x e es up is = ap (λ b. cond b (Some e.1) (lookup (nat_eq n) es)) (less_eqb e.0 n (found-above e.0 n x es up.0 is)) ∙ is
 
   pub found-first : (e : ℕ × X) (es : List (ℕ × X)) → lookup (nat_eq e.0) (e ∷ es) ≡ Some e.1
   found-first e es = ap (λ b. cond b (Some e.1) (lookup (nat_eq e.0) es)) (eq-eqb e.0 e.0 refl)

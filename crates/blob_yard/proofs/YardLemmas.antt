@@ -18,7 +18,7 @@ use Rattle.blob_yard.specs.Shown.{AreCounted, numbers_from, shown_leases}
 use Rattle.blob_yard.specs.declared.places.Place.{Place}
 use Rattle.blob_yard.specs.declared.places.Stand.{Stand}
 use Rattle.blob_yard.specs.declared.places.Stand.TheVariants.{Draft, Kept, Condemned}
-use Rattle.blob_yard.proofs.MapLemmas.{eqb_sym, found-behind, found-first, lookup-changed}
+use Rattle.blob_yard.proofs.MapLemmas.{eqb_sym, found-after, found-first, lookup-changed}
 use Rattle.blob_yard.proofs.PlaceLemmas.{passing, among-passing, passing_same, passing_still, passing_out, passing_in, found_so}
 
 abbrev numbers_by : List ℕ → List plain.Lease → List ℕ → List ℕ → ℕ → ℕ → ℕ → Numbers
@@ -243,7 +243,7 @@ unlent-garbage : (lent : ℕ → Bool) (es : List (ℕ × Place)) → AreRising 
     → filter (λ n. not (lent n)) (numbers_of is_condemned es) ≡ garbage_of es
 unlent-garbage lent [] up h = refl
 unlent-garbage lent (e ∷ es) up h =
-    let behind = unlent-garbage lent es up.1 (λ n p is. h n p (found-behind n p e es up is)) in
+    let behind = unlent-garbage lent es up.1 (λ n p is. h n p (found-after n p e es up is)) in
     let first : not (lent e.0) ≡ eqb e.1.leases 0 = ap not (h e.0 e.1 (found-first e es)) ∙ not-not (eqb e.1.leases 0) in
     elim (is_condemned e.1.stand) as (λ b. filter (λ n. not (lent n)) (map (λ (e : ℕ × Place). e.0) (cond b (e ∷ filter (λ e. is_condemned e.1.stand) es) (filter (λ e. is_condemned e.1.stand) es)))
     ≡ map (λ (e : ℕ × Place). e.0) (cond (b && eqb e.1.leases 0) (e ∷ filter (λ e. is_garbage e.1) es) (filter (λ e. is_garbage e.1) es))) [
@@ -273,7 +273,7 @@ passing_without : (test : Place → Bool) (ns : List ℕ) (es : List (ℕ × Pla
     → passing test (without ns es) ≡ passing test es
 passing_without test ns [] up h = refl
 passing_without test ns (e ∷ es) up h =
-    let behind = passing_without test ns es up.1 (λ n p is. h n p (found-behind n p e es up is)) in
+    let behind = passing_without test ns es up.1 (λ n p is. h n p (found-after n p e es up is)) in
     elim (test e.1) as (λ b. test e.1 ≡ b → passing test (cond (not (is_among e.0 ns)) (e ∷ without ns es) (without ns es)) ≡ map (λ (e : ℕ × Place). e.0) (cond b (e ∷ filter (λ e. test e.1) es) (filter (λ e. test e.1) es))) [
       | true ↦ λ passes.
           ap (λ b. passing test (cond (not b) (e ∷ without ns es) (without ns es))) (h e.0 e.1 (found-first e es) passes)

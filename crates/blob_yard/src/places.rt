@@ -182,7 +182,7 @@ pub fn give_back(places: &mut Places, number: u64)
     }
 }
 
-/// Adds the first garbage that nobody has borrowed, as far as there is room for 100 numbers. It looks at no place behind the
+/// Adds the first garbage that nobody has borrowed, as far as there is room for 100 numbers. It looks at no place after the
 /// last garbage that it adds, and at none where there is no garbage.
 pub fn push_garbage(places: &Places, out: &mut Vec<u64>)
     requires { vec_len out.old + 100 ≤ vec_capacity out.old }

@@ -8,11 +8,11 @@ use Rattle.std.proofs.lemmas.Bool.Decides.{Decides-eqb}
 use Rattle.std.proofs.lemmas.Slice.Eq.{starts_is, ends_is}
 use Rattle.byte_cuts.specs.Cuts.{behind, before}
 
-pub behind_strip : (front text : List ℕ) (r : Option (Bor (List ℕ))) → MatchOption r (FindsTextPrefix front text None) (λ x. StripsPrefix (FindsTextPrefix front) text x.now) → option_copied r ≡ behind front text
-behind_strip front text None h =
+pub after_strip : (front text : List ℕ) (r : Option (Bor (List ℕ))) → MatchOption r (FindsTextPrefix front text None) (λ x. StripsPrefix (FindsTextPrefix front) text x.now) → option_copied r ≡ behind front text
+after_strip front text None h =
     let e : starts_with eqb text front ≡ false = false_from_ne_true _ (λ t. h _ ((starts_is Decides-eqb text front _ refl).0 t)) in
     rw e refl
-behind_strip front text (Some x) h =
+after_strip front text (Some x) h =
     let e : starts_with eqb text front ≡ true = (starts_is Decides-eqb text front _ refl).1 _ h.1.1 in
     let n : h.0 ≡ length front = h.1.0 in
     rw e (rw (← n) (ap Some h.2))

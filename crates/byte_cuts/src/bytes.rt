@@ -10,7 +10,7 @@ pub fn is(bytes: &[u8], word: &[u8]) -> bool
     bytes == word
 }
 
-/// What is left of the bytes behind a front.
+/// What is left of the bytes after a front.
 pub fn behind<'a>(front: &[u8], bytes: &'a [u8]) -> Option<&'a [u8]>
     ensures { option_copied result ≡ spec.behind front.now bytes.now }
 {

@@ -10,7 +10,7 @@ pub fn is(text: &str, word: &str) -> bool
     text == word
 }
 
-/// What is left of a text behind a front.
+/// What is left of a text after a front.
 pub fn behind<'a>(front: &str, text: &'a str) -> Option<&'a str>
     ensures { option_copied result ≡ spec.behind front.now text.now }
 {

@@ -109,7 +109,7 @@ impl Book {
         }
     }
 
-    /// Adds what a word says, `NAME` or `TIMES*NAME`. How often the lines of text behind it stand, where it is `TIMES*`.
+    /// Adds what a word says, `NAME` or `TIMES*NAME`. How often the lines of text after it stand, where it is `TIMES*`.
     fn push_word(&self, all: &mut Vec<u8>, word: &str) -> Result<Option<Times>, CaseFault> {
         let (times, name) = match word.split_once('*') {
             Some((times, name)) => (times_of(times)?, name),
@@ -125,7 +125,7 @@ impl Book {
         Ok(None)
     }
 
-    /// Adds texts by their names, and lines of text behind them.
+    /// Adds texts by their names, and lines of text after them.
     pub(crate) fn push_texts(
         &self,
         all: &mut Vec<u8>,
@@ -146,7 +146,7 @@ impl Book {
         }
     }
 
-    /// Adds what an entry says: texts by their names, and behind them its own lines of text.
+    /// Adds what an entry says: texts by their names, and after them its own lines of text.
     pub(crate) fn push_parts(&self, all: &mut Vec<u8>, entry: &Entry) -> Result<(), CaseFault> {
         self.push_texts(all, entry.rest.as_str(), entry.text.as_str())
     }

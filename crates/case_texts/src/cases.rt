@@ -61,7 +61,7 @@ pub struct Stored {
     pub bytes: Vec<u8>,
 }
 
-/// What comes in on a connection, and what has to be written on it and printed behind it.
+/// What comes in on a connection, and what has to be written on it and printed after it.
 #[derive(Drop)]
 pub struct Link {
     pub input: Vec<u8>,
@@ -97,16 +97,16 @@ pub struct Case {
     pub given: Vec<u8>,
     /// The input of an earlier run over the same records and blobs; no byte for none.
     pub before: Vec<u8>,
-    /// The blobs that are gone behind it.
+    /// The blobs that are gone after it.
     pub lost: Vec<u64>,
-    /// What the remote answers, exchange by exchange; behind them it fails.
+    /// What the remote answers, exchange by exchange; after them it fails.
     pub remote: Vec<Vec<u8>>,
     /// How many exchanges are made with it, where the case says it.
     pub exchanges: Option<u64>,
     pub script: Script,
     pub pieces: Pieces,
     /// The connections that one core serves before the last one. Where there are any, no run of the program is made, and the line
-    /// behind each has the calls of the core so far.
+    /// after each has the calls of the core so far.
     pub earlier: Vec<Link>,
     pub last: Link,
     pub status: u8,

@@ -1,4 +1,4 @@
-// Entries: a line that begins with a word, and the lines of text behind it.
+// Entries: a line that begins with a word, and the lines of text after it.
 ghost use Rattle.std.specs.Prelude.{◌≡◌, ◌+◌, ◌<◌, ◌↔◌, IfOk, IfErr, OnOk, IsErrOf, vec_len};
 ghost use Rattle.case_texts.specs.Marks.{mark_of};
 ghost use Rattle.case_texts.specs.Faults.{HasLine};
@@ -14,7 +14,7 @@ enum Mark {
     Entry,
 }
 
-/// A line that begins with a word, and the lines of text behind it.
+/// A line that begins with a word, and the lines of text after it.
 #[derive(Drop)]
 pub struct Entry {
     /// The number of its line, from 1.
@@ -22,7 +22,7 @@ pub struct Entry {
     pub ghost numbered: { 0 < line },
     /// Its word.
     pub key: String,
-    /// What stands behind the word and a blank.
+    /// What stands after the word and a blank.
     pub rest: String,
     /// The lines of text, each with its mark and a line end.
     pub text: String,

@@ -51,7 +51,7 @@ fn push_number(all: &mut Vec<u8>, number: u64) -> Result<Escape, WrittenFault> {
     Ok(Escape::Outside)
 }
 
-/// Adds what stands behind a backslash.
+/// Adds what stands after a backslash.
 fn push_escaped(all: &mut Vec<u8>, byte: u8, number: u64) -> Result<Escape, WrittenFault> {
     match byte {
         b'\\' => push(all, b'\\'),
@@ -118,7 +118,7 @@ pub fn push_line(
     Ok(())
 }
 
-/// What stands behind a line's mark and a blank.
+/// What stands after a line's mark and a blank.
 fn unmarked(line: &str) -> &[u8] {
     match line.as_bytes() {
         [_, b' ', rest @ ..] => rest,

@@ -77,7 +77,7 @@ fn goes_up_to_a_fault(answers: &[u8], whole: &[u8]) -> bool {
             .is_some_and(|it| it.ends_with(b"removed "))
 }
 
-/// Whether answers go as the whole ones up to one that tells a fault, and each request behind it has its answer too.
+/// Whether answers go as the whole ones up to one that tells a fault, and each request after it has its answer too.
 fn tell_a_fault(answers: &[u8], whole: &[u8]) -> bool {
     are_all(answers, whole) && goes_up_to_a_fault(answers, whole)
 }

@@ -1,13 +1,13 @@
 //! Files of cases, as a person reads and writes them: of the program, what comes in, what was there before, what fails, and what has
 //! to be answered; of a library, steps in words and what has to be told of each.
 //!
-//! A file is lines that begin with a word, and lines of text behind them. A line without a byte, and one that begins with `#`,
+//! A file is lines that begin with a word, and lines of text after them. A line without a byte, and one that begins with `#`,
 //! says nothing. A line that begins with `>` or `|` is text of the entry above it; a blank may follow the mark. Any other line
-//! begins an entry: a word, and behind a blank what it says.
+//! begins an entry: a word, and after a blank what it says.
 //!
-//! A line of text stands for its bytes and a line end: CR LF behind `>`, LF behind `|`. In it `\\`, `\r`, `\n`, `\t` and `\xHH`
+//! A line of text stands for its bytes and a line end: CR LF after `>`, LF after `|`. In it `\\`, `\r`, `\n`, `\t` and `\xHH`
 //! stand for a backslash, CR, LF, a tab and the byte of two hexadecimal digits, `\#` for a number that the reader says, and a
-//! backslash behind all others takes the line end away.
+//! backslash after all others takes the line end away.
 //!
 //! What the entries of a case say:
 //!
@@ -21,7 +21,7 @@
 //! | `stored N`, and lines of text | a blob that is there before all else |
 //! | `given ..` | what the first blob gives when it is read, in place of what is stored |
 //! | `before ..` | what an earlier run is sent, over the same records and blobs |
-//! | `lost N` | a blob that is gone behind it |
+//! | `lost N` | a blob that is gone after it |
 //! | `remote ..` | what the remote answers to the next exchange with it |
 //! | `exchanges N` | how many exchanges are made with it |
 //! | `fails OBJECT N` | the call of an object that fails, counted from 0: of the `settings`, the `port`, the `reads` of the input, the `blobs`, the `records` |
@@ -30,10 +30,10 @@
 //! | `send ..`, `answer ..` | what comes in, and what has to be answered |
 //! | `line TEXT`, `no-line`, `status N` | what has to be printed, and the status |
 //! | `blobs N ..` | the blobs that are there in the end |
-//! | `next` | a further connection begins, which the same core serves; the line behind each has the calls of that core so far |
+//! | `next` | a further connection begins, which the same core serves; the line after each has the calls of that core so far |
 //!
 //! What is sent and answered goes on from one such entry to the next. `..` are texts by their names, `N*NAME` for one that stands
-//! N times, and behind them the entry's own lines of text, as often as a word `N*` says. In place of N stands `A..B` for the
+//! N times, and after them the entry's own lines of text, as often as a word `N*` says. In place of N stands `A..B` for the
 //! numbers from A to B, which `\#` writes.
 //!
 //! What the entries of cases of steps say:
@@ -41,7 +41,7 @@
 //! | Entry | What it says |
 //! |---|---|
 //! | `text NAME`, and lines of text | a text that has a name from here on |
-//! | `word NAME VALUE` | a name for what stands behind it |
+//! | `word NAME VALUE` | a name for what stands after it |
 //! | `parts NAME ..` | a name for texts by their names and lines of text, each as often as it says |
 //! | `case NAME` | a case begins, with nothing that the one before it left |
 //! | `STEP = REPLY` | a step, and what has to be told of it |

@@ -42,14 +42,14 @@ impl Names {
         self.push(alloc, name, text)
     }
 
-    /// Names what stands behind the first blank.
+    /// Names what stands after the first blank.
     pub(crate) fn name_word(&mut self, alloc: Global, rest: &str) -> Result<(), CaseFault> {
         let (name, text) = rest.split_once(' ').ok_or(CaseFault::Text)?;
         let text: String = String::from_str(alloc, text)?;
         self.push(alloc, name, text)
     }
 
-    /// Names texts, each so many times, and lines of text behind them.
+    /// Names texts, each so many times, and lines of text after them.
     pub(crate) fn name_parts(&mut self, alloc: Global, entry: &Entry) -> Result<(), CaseFault> {
         let (name, parts) = entry.rest.as_str().split_once(' ').ok_or(CaseFault::Text)?;
         let mut bytes: Vec<u8> = Vec::new(alloc);

@@ -8,7 +8,7 @@ use std::process::ExitCode;
 use std::rt::{Env, Files};
 use std::{env, fs, io};
 
-/// What judges the cases of files, one after the other. What a file names counts in the files behind it.
+/// What judges the cases of files, one after the other. What a file names counts in the files after it.
 pub trait Judge {
     /// How the cases of a text go.
     fn judge(&mut self, alloc: Global, text: &str) -> Result<Vec<Told>, Refusal>;
@@ -113,7 +113,7 @@ pub fn run_steps<S: Steps + Drop>(
     Ok(status_of(follow_files(rt, steps, files.as_slice())?))
 }
 
-/// The words before a mark, and those behind it; nothing behind it where it is none of them.
+/// The words before a mark, and those after it; nothing after it where it is none of them.
 pub fn parted<'a>(words: &'a [String], mark: &str) -> (&'a [String], Option<&'a [String]>) {
     let mut rest: &[String] = words;
     for place in 0..words.len() {
@@ -129,7 +129,7 @@ pub fn parted<'a>(words: &'a [String], mark: &str) -> (&'a [String], Option<&'a 
 }
 
 /// Follows the cases of steps in the files that the words before a mark name, or in the standard input where there is neither a word
-/// nor the mark. The words behind the mark where all cases go as they have to; else the status of the program.
+/// nor the mark. The words after the mark where all cases go as they have to; else the status of the program.
 pub fn follow_before<'a, S: Steps + Drop>(
     rt: &(impl AllocGlobal + Files + Input + Print),
     steps: S,

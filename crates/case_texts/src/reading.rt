@@ -59,7 +59,7 @@ impl From<WrittenFault> for CaseFault {
     }
 }
 
-/// Why a file of cases is refused, and the line from 1; 0 where memory was wanting.
+/// Why a file of cases is refused, and the line from 1; 0 when memory ran out.
 #[derive(Clone, Copy, PartialEq, Eq, Debug)]
 pub struct Refusal {
     pub line: u64,

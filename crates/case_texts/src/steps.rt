@@ -12,7 +12,7 @@ pub trait Steps {
     /// Begins a case: of the case before it nothing is left.
     fn begin(&mut self, alloc: Global) -> Result<(), AllocError>;
 
-    /// Takes the step of a word and of those behind it: what is told of it. Nothing where they are no step.
+    /// Takes the step of a word and of those after it: what is told of it. Nothing where they are no step.
     fn step(&mut self, alloc: Global, key: &str, words: &[String]) -> Tale;
 }
 

@@ -7,7 +7,7 @@ use std::alloc::{AllocError, Global};
 pub struct Went {
     /// What was written on the connection.
     pub answers: Vec<u8>,
-    /// What was printed behind it.
+    /// What was printed after it.
     pub line: Vec<u8>,
     /// What the run ended with; of no meaning for one connection of several.
     pub status: u8,
@@ -43,7 +43,7 @@ pub(crate) fn alike(one: &[u8], other: &[u8]) -> usize {
 /// So many bytes are shown of what differs.
 const SHOWN: usize = 120;
 
-/// The bytes behind the first so many, as far as they are shown.
+/// The bytes after the first so many, as far as they are shown.
 fn shown(alloc: Global, bytes: &[u8], from: usize) -> Result<String, AllocError> {
     let rest: &[u8] = bytes.get(from..).unwrap_or(&[]);
     let rest: &[u8] = rest.get(..SHOWN).unwrap_or(rest);

@@ -33,7 +33,7 @@ pub fn bytes_of(alloc: Global, words: &[String]) -> Result<Vec<u8>, AllocError> 
     Ok(bytes)
 }
 
-/// The bytes that the words stand for, one behind the other, by the same escapes. Where a word has another one, none from there on.
+/// The bytes that the words stand for, one after the other, by the same escapes. Where a word has another one, none from there on.
 pub fn run_together(alloc: Global, words: &[String]) -> Result<Vec<u8>, AllocError> {
     let mut bytes: Vec<u8> = Vec::new(alloc);
     for word in words {

@@ -12,15 +12,15 @@ use Rattle.repo_model.specs.Settings.{Settings}
 use Rattle.repo_routes.specs.Intent.{Intent, Judged, reads as reads_path, puts_side, puts_document, cleans as cleans_all}
 use Rattle.repo_routes.specs.Judge.{judge}
 use Rattle.repo_routes.specs.declared.judging.Refused.{Refused}
-use Rattle.repo_course.specs.Course.{Body, Close, Course, Outcome, asks, does, says, stops, speaks, rests, after_continue, after_document, after_side, closes, compares, course_for, course_of, cut_off, invites, is_group, manner_for, notes, of_fault, of_pass, rounds_of}
+use Rattle.repo_course.specs.Course.{Body, Close, Course, Outcome, asks, does, says, stops, speaks, rests, after_continue, after_document, after_side, closes, compares, course_for, course_of, cut_off, invites, is_group, mode_for, notes, of_fault, of_pass, rounds_of}
 use Rattle.repo_course.specs.declared.fetched.Verdict.TheVariants as verdict
-use Rattle.repo_course.specs.declared.manner.Manner.{Manner}
+use Rattle.repo_course.specs.declared.mode.ResponseMode.{ResponseMode}
 use Rattle.repo_course.specs.declared.outcomes.Continued.{Continued}
 use Rattle.repo_course.specs.declared.outcomes.Continued.TheVariants as continued
 use Rattle.repo_course.specs.declared.outcomes.End.{End}
-use Rattle.repo_course.specs.declared.said.Said.TheVariants.{NoMemory}
+use Rattle.repo_course.specs.declared.response.Response.TheVariants.{NoMemory}
 use Rattle.repo_course.specs.Serving.{Begins, Follows, IsWhole, Opens, clean, torn, failed, refused, unread_head, starved, served, Outside, RequestTurn}
-use Rattle.course_laws.proofs.Passes.{ArePass, IsPassCommand, deed-asks}
+use Rattle.course_laws.proofs.Passes.{ArePass, IsPassCommand, action-asks}
 use Rattle.closed_laws.specs.Answered.{ReadShows, ShowsReply}
 use Rattle.closed_laws.proofs.AnsweredReads.{looks-first, reply-seen}
 
@@ -30,8 +30,8 @@ IsLook command = (repo : List ℕ) × (path : List ℕ) × (tried : List ℕ) ×
 -- the first command of the course is no look
 abbrev Unlooking : Course → Type 0
 Unlooking (asks command next) = IsLook command → ⊥
-Unlooking (does deed next) = (outcome : Outcome deed) → Unlooking (next outcome)
-Unlooking (says said manner) = Unit {0}
+Unlooking (does io_action next) = (outcome : Outcome io_action) → Unlooking (next outcome)
+Unlooking (says said mode) = Unit {0}
 Unlooking (stops end) = Unit {0}
 
 pass-is-no-look : (command : Command) → IsPassCommand command → IsLook command → ⊥
@@ -40,7 +40,7 @@ pass-is-no-look (unlist repo) asked looks = let is : unlist repo ≡ look looks.
 pass-is-no-look collect asked looks = let is : collect ≡ look looks.0 looks.1 looks.2 = looks.3 in absurd (cc)
 pass-is-no-look _ asked looks = absurd asked
 
--- what a pass asks first is no look, nor is what is asked behind it
+-- what a pass asks first is no look, nor is what is asked after it
 pass-first : (mine later : List Entry) (e : Entry) (more : List Entry) → ArePass mine → mine ++ later ≡ e ∷ more → IsLook e.command
     → (later ≡ e ∷ more → ⊥) → ⊥
 pass-first [] later e more asked is looks behind = behind is
@@ -53,33 +53,33 @@ module _ (tells : Type 0) where
   first-asked (asks command next) un [] e more is looks old new end f = f
   first-asked (asks command next) un (d ∷ entries) e more is looks old new end f =
       let same : d ≡ e = cc in un (looks.0, looks.1, looks.2, sym f.0 ∙ ap (λ (x : Entry). x.command) same ∙ looks.3)
-  first-asked (does deed next) un entries e more is looks old new end f =
-      pass-first f.1 f.2 e more (deed-asks tells deed f.0 f.1 old f.3 f.5) (sym f.4 ∙ is) looks
+  first-asked (does io_action next) un entries e more is looks old new end f =
+      pass-first f.1 f.2 e more (action-asks tells io_action f.0 f.1 old f.3 f.5) (sym f.4 ∙ is) looks
       (λ later-is. first-asked (next f.0) (un f.0) f.2 e more later-is looks f.3 new end f.6)
-  first-asked (says said manner) un entries e more is looks old new end f = let none : e ∷ more ≡ [] = sym is ∙ f.0 in absurd (cc)
+  first-asked (says said mode) un entries e more is looks old new end f = let none : e ∷ more ≡ [] = sym is ∙ f.0 in absurd (cc)
   first-asked (stops next) un entries e more is looks old new end f = let none : e ∷ more ≡ [] = sym is ∙ f.0 in absurd (cc)
 
 -- only a read looks first
-closes-unlooking : (manner : Manner) (due : Close) → Unlooking (closes manner due)
-closes-unlooking manner (speaks NoMemory) = tt
-closes-unlooking manner (speaks _) = tt
-closes-unlooking manner (rests end) = tt
+closes-unlooking : (mode : ResponseMode) (due : Close) → Unlooking (closes mode due)
+closes-unlooking mode (speaks NoMemory) = tt
+closes-unlooking mode (speaks _) = tt
+closes-unlooking mode (rests end) = tt
 
-compares-unlooking : (place : Place) (path : List ℕ) (manner : Manner) (digest : Option (List ℕ)) → Unlooking (compares place path manner digest)
-compares-unlooking place path manner (Some digest) = λ (looks : IsLook _). absurd (let is = looks.3 in cc)
-compares-unlooking place path manner None = tt
+compares-unlooking : (place : Place) (path : List ℕ) (mode : ResponseMode) (digest : Option (List ℕ)) → Unlooking (compares place path mode digest)
+compares-unlooking place path mode (Some digest) = λ (looks : IsLook _). absurd (let is = looks.3 in cc)
+compares-unlooking place path mode None = tt
 
-notes-unlooking : (place : Place) (path : List ℕ) (manner : Manner) (read : Result Document ℕ) → Unlooking (notes place path manner read)
-notes-unlooking place path manner (Ok document) = λ (looks : IsLook _). absurd (let is = looks.3 in cc)
-notes-unlooking place path manner (Err at) = tt
+notes-unlooking : (place : Place) (path : List ℕ) (mode : ResponseMode) (read : Result Document ℕ) → Unlooking (notes place path mode read)
+notes-unlooking place path mode (Ok document) = λ (looks : IsLook _). absurd (let is = looks.3 in cc)
+notes-unlooking place path mode (Err at) = tt
 
-side-unlooking : (place : Place) (path : List ℕ) (side : Side) (manner : Manner) (body : Body) → Unlooking (after_side place path side manner body)
-side-unlooking place path side manner (Ok bytes) = compares-unlooking place path manner (read_side side bytes)
-side-unlooking place path side manner (Err fault) = closes-unlooking manner (of_fault fault)
+side-unlooking : (place : Place) (path : List ℕ) (side : Side) (mode : ResponseMode) (body : Body) → Unlooking (after_side place path side mode body)
+side-unlooking place path side mode (Ok bytes) = compares-unlooking place path mode (read_side side bytes)
+side-unlooking place path side mode (Err fault) = closes-unlooking mode (of_fault fault)
 
-document-unlooking : (place : Place) (path : List ℕ) (manner : Manner) (body : Body) → Unlooking (after_document place path manner body)
-document-unlooking place path manner (Ok bytes) = notes-unlooking place path manner (reading bytes)
-document-unlooking place path manner (Err fault) = closes-unlooking manner (of_fault fault)
+document-unlooking : (place : Place) (path : List ℕ) (mode : ResponseMode) (body : Body) → Unlooking (after_document place path mode body)
+document-unlooking place path mode (Ok bytes) = notes-unlooking place path mode (reading bytes)
+document-unlooking place path mode (Err fault) = closes-unlooking mode (of_fault fault)
 
 invited-unlooking : (expects : Bool) (body : Course) → Unlooking body → Unlooking (invites expects cut_off body)
 invited-unlooking false body un = un
@@ -94,12 +94,12 @@ abbrev IsOther : Intent → Type 0
 IsOther (reads_path repo path of_sort) = ⊥
 IsOther intent = Unit {0}
 
-intent-unlooking : (manner : Manner) (expects : Bool) (intent : Intent) → IsOther intent → Unlooking (course_for manner expects intent)
-intent-unlooking manner expects (reads_path repo path of_sort) other = absurd other
-intent-unlooking manner expects (puts_side place path side count) other = invited-unlooking expects _ (side-unlooking place path side manner)
-intent-unlooking manner expects (puts_document place path count) other = invited-unlooking expects _ (document-unlooking place path manner)
-intent-unlooking manner expects (cleans_all repos) other = λ pass. closes-unlooking manner (of_pass pass)
-intent-unlooking manner expects _ other = λ (looks : IsLook _). absurd (let is = looks.3 in cc)
+intent-unlooking : (mode : ResponseMode) (expects : Bool) (intent : Intent) → IsOther intent → Unlooking (course_for mode expects intent)
+intent-unlooking mode expects (reads_path repo path of_sort) other = absurd other
+intent-unlooking mode expects (puts_side place path side count) other = invited-unlooking expects _ (side-unlooking place path side mode)
+intent-unlooking mode expects (puts_document place path count) other = invited-unlooking expects _ (document-unlooking place path mode)
+intent-unlooking mode expects (cleans_all repos) other = λ pass. closes-unlooking mode (of_pass pass)
+intent-unlooking mode expects _ other = λ (looks : IsLook _). absurd (let is = looks.3 in cc)
 
 -- something was asked
 not-none : {P : Type 0} (e : Entry) (more : List Entry) → e ∷ more ≡ [] → P
@@ -115,9 +115,9 @@ module _ (settings : Settings) (tells : Type 0) (last : Bool) (e : Entry) (more 
 
     module _ (head : Head) (left : Option (List ℕ)) (comes : Begins old.input (IsWhole head left)) (uses : mid ≡ record old { input = left }) where
       by-intent : (request : Judged) → judge settings head ≡ Ok request → (intent : Intent) → request.intent ≡ intent
-          → Follows tells (course_for (manner_for request last) request.expects intent) (e ∷ more) mid new end → Goal
+          → Follows tells (course_for (mode_for request last) request.expects intent) (e ∷ more) mid new end → Goal
       by-intent request judged (reads_path r p of_sort) asks-it f =
-          let first = looks-first tells (manner_for request last) (rounds_of of_sort) r p [] (verdict.Unasked (is_group of_sort)) in
+          let first = looks-first tells (mode_for request last) (rounds_of of_sort) r p [] (verdict.Unasked (is_group of_sort)) in
           let g = subst (λ (d : Course). Follows tells d (e ∷ more) mid new end) first.1 f in
           let same : look r p [] ≡ look repo path tried = sym g.0 ∙ looks in
           let repo-is : r ≡ repo = cc in
@@ -130,11 +130,11 @@ module _ (settings : Settings) (tells : Type 0) (last : Bool) (e : Entry) (more 
             judged = judged;
             sort = of_sort;
             asks = asks-it ∙ ap (λ (x : List ℕ). reads_path x p of_sort) repo-is ∙ ap (λ (x : List ℕ). reads_path repo x of_sort) path-is;
-            shows = subst (λ (o : Outside). ShowsReply e.reply (manner_for request last) o new end) uses
-                (reply-seen tells (manner_for request last) (is_group of_sort) first.0 e.reply more mid new end g.1);
+            shows = subst (λ (o : Outside). ShowsReply e.reply (mode_for request last) o new end) uses
+                (reply-seen tells (mode_for request last) (is_group of_sort) first.0 e.reply more mid new end g.1);
           }
       by-intent request judged intent asks-it f =
-          never (course_for (manner_for request last) request.expects intent) (intent-unlooking (manner_for request last) request.expects intent tt) f
+          never (course_for (mode_for request last) request.expects intent) (intent-unlooking (mode_for request last) request.expects intent tt) f
 
       by-outcome : (outcome : Result Judged Refused) → judge settings head ≡ outcome → Follows tells (course_of outcome last) (e ∷ more) mid new end → Goal
       by-outcome (Ok request) judged f = by-intent request judged request.intent refl f

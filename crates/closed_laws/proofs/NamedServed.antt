@@ -15,11 +15,11 @@ use Rattle.repo_laws.specs.Sound.{AreNamedApart, IsSound}
 use Rattle.repo_laws.proofs.Closed.{answers-up-to, named-in-time}
 use Rattle.repo_laws.proofs.Keeping.{ends-sound, keeps-sound}
 use Rattle.repo_course.specs.Serving.{Outside, whole as said_whole, memory as said_memory, cut as said_cut}
-use Rattle.repo_course.specs.declared.manner.Manner.{Manner}
+use Rattle.repo_course.specs.declared.mode.ResponseMode.{ResponseMode}
 use Rattle.repo_course.specs.declared.outcomes.End.{End}
-use Rattle.repo_course.specs.declared.said.Said.{Said}
-use Rattle.repo_course.specs.declared.said.Said.TheVariants as said
-use Rattle.closed_laws.specs.Answered.{ReadShows, IsLookedUp, looked, unread, failed, ShowsFile, starved, ShowsMemory, ShowsReply, ShowsSaid}
+use Rattle.repo_course.specs.declared.response.Response.{Response}
+use Rattle.repo_course.specs.declared.response.Response.TheVariants as response
+use Rattle.closed_laws.specs.Answered.{ReadShows, IsLookedUp, looked, unread, failed, ShowsFile, starved, ShowsMemory, ShowsReply, ShowsResponse}
 use Rattle.closed_laws.specs.Named.{IsSideOf, ShowsNamed, ShowsSide, WasNamed}
 use Rattle.closed_laws.proofs.AnsweredReads.{By}
 use Rattle.course_laws.proofs.LeftBehind.{end_append, legal_cut}
@@ -53,30 +53,30 @@ module _ (settings : Settings) (apart : AreNamedApart settings.hosted) where
       let answered = (answers-up-to settings apart (e ∷ later) (end settings now was.rest) t repo row.path row.blob last_sound.order last_legal then_too).0.0 was.in_time in
       subst (λ (x : State). Answers repo row.path row.blob x e) (sym ends) answered
 
--- what is seen of want of memory is among what is seen of an answer
-memory-said : (answer : Said) (manner : Manner) (old new : Outside) (end : Option End) → ShowsMemory manner.head_only old new end → ShowsSaid manner answer old new end
-memory-said answer manner old new end (said_whole is ends) = said_memory is ends
-memory-said answer manner old new end (said_memory is ends) = said_memory is ends
-memory-said answer manner old new end (said_cut faults all part rose (inl which) front is ends) = said_cut faults all part rose (inr which) front is ends
-memory-said answer manner old new end (said_cut faults all part rose (inr which) front is ends) = said_cut faults all part rose (inr which) front is ends
+-- what is seen of running out of memory is among what is seen of an answer
+memory-said : (answer : Response) (mode : ResponseMode) (old new : Outside) (end : Option End) → ShowsMemory mode.head_only old new end → ShowsResponse mode answer old new end
+memory-said answer mode old new end (said_whole is ends) = said_memory is ends
+memory-said answer mode old new end (said_memory is ends) = said_memory is ends
+memory-said answer mode old new end (said_cut faults all part rose (inl which) front is ends) = said_cut faults all part rose (inr which) front is ends
+memory-said answer mode old new end (said_cut faults all part rose (inr which) front is ends) = said_cut faults all part rose (inr which) front is ends
 
 -- a reply that gives the file, or the text, is seen so
-pub file-shown : (s : State) (blob : Blob) (reply : Reply) (manner : Manner) (old new : Outside) (end : Option End) → GivesFile s blob reply
-    → ShowsReply reply manner old new end → ShowsNamed s blob manner old new end
-file-shown s blob (file lease given) manner old new end gives seen = inl (subst (λ (b : Blob). ShowsFile manner b old new end) gives seen)
-file-shown s blob spent manner old new end gives seen = inr (gives, seen)
-file-shown s blob no_memory manner old new end gives seen = inl (starved seen)
-file-shown s blob _ manner old new end gives seen = absurd gives
+pub file-shown : (s : State) (blob : Blob) (reply : Reply) (mode : ResponseMode) (old new : Outside) (end : Option End) → GivesFile s blob reply
+    → ShowsReply reply mode old new end → ShowsNamed s blob mode old new end
+file-shown s blob (file lease given) mode old new end gives seen = inl (subst (λ (b : Blob). ShowsFile mode b old new end) gives seen)
+file-shown s blob spent mode old new end gives seen = inr (gives, seen)
+file-shown s blob no_memory mode old new end gives seen = inl (starved seen)
+file-shown s blob _ mode old new end gives seen = absurd gives
 
-pub text-shown : (wanted : List ℕ) (reply : Reply) (manner : Manner) (old new : Outside) (end : Option End) → GivesText wanted reply
-    → ShowsReply reply manner old new end → ShowsSaid manner (said.Text wanted) old new end
-text-shown wanted (text bytes) manner old new end gives seen = subst (λ (b : List ℕ). ShowsSaid manner (said.Text b) old new end) gives seen
-text-shown wanted no_memory manner old new end gives seen = memory-said (said.Text wanted) manner old new end seen
-text-shown wanted _ manner old new end gives seen = absurd gives
+pub text-shown : (wanted : List ℕ) (reply : Reply) (mode : ResponseMode) (old new : Outside) (end : Option End) → GivesText wanted reply
+    → ShowsReply reply mode old new end → ShowsResponse mode (response.Text wanted) old new end
+text-shown wanted (text bytes) mode old new end gives seen = subst (λ (b : List ℕ). ShowsResponse mode (response.Text b) old new end) gives seen
+text-shown wanted no_memory mode old new end gives seen = memory-said (response.Text wanted) mode old new end seen
+text-shown wanted _ mode old new end gives seen = absurd gives
 
 -- what is seen, where more is known of it
-pub answered-then : (settings : Settings) (last : Bool) (repo path : List ℕ) (P Q : Manner → Outside → Outside → Option End → Type 0)
-    → ((manner : Manner) (old new : Outside) (end : Option End) → P manner old new end → Q manner old new end)
+pub answered-then : (settings : Settings) (last : Bool) (repo path : List ℕ) (P Q : ResponseMode → Outside → Outside → Option End → Type 0)
+    → ((mode : ResponseMode) (old new : Outside) (end : Option End) → P mode old new end → Q mode old new end)
     → (old new : Outside) (end : Option End) → ReadShows settings last repo path P old new end → ReadShows settings last repo path Q old new end
 answered-then settings last repo path P Q then_too old new end a = record {
   head = a.head;
@@ -108,26 +108,26 @@ module _ (settings : Settings) (apart : AreNamedApart settings.hosted) (start : 
       let gives = (named-answers settings apart start before later e repo row sound legal was).1 at tried beside.0 side looks beside.1 beside.2 in
       answered-then settings last repo at (ShowsReply e.reply) (ShowsSide side row.blob) (λ m from to ending seen. text-shown (side_text side row.blob.print.digests) e.reply m from to ending gives seen) old new stop a
 
-  pub file-looked : (entries later : List Entry) (manner : Manner) (left : List ℕ) (old new : Outside) (stop : Option End)
-      → IsLookedUp repo row.path By manner left entries old new stop
+  pub file-looked : (entries later : List Entry) (mode : ResponseMode) (left : List ℕ) (old new : Outside) (stop : Option End)
+      → IsLookedUp repo row.path By mode left entries old new stop
       → IsLookedUp repo row.path
       (λ e m from to ending. Legal settings start (before ++ e ∷ later) → WasNamed settings start before repo row e.moment → ShowsNamed s row.blob m from to ending)
-      manner left entries old new stop
-  file-looked entries later manner left old new stop (looked e more is looks seen) =
+      mode left entries old new stop
+  file-looked entries later mode left old new stop (looked e more is looks seen) =
       looked e more is looks (λ legal was.
       let gives = (named-answers settings apart start before later e repo row sound legal was).0 [] looks in
-      file-shown s row.blob e.reply manner _ new stop gives seen)
-  file-looked entries later manner left old new stop (unread mid head_only to_head none reads seen) = unread mid head_only to_head none reads seen
-  file-looked entries later manner left old new stop (failed none rose still ends) = failed none rose still ends
+      file-shown s row.blob e.reply mode _ new stop gives seen)
+  file-looked entries later mode left old new stop (unread mid head_only to_head none reads seen) = unread mid head_only to_head none reads seen
+  file-looked entries later mode left old new stop (failed none rose still ends) = failed none rose still ends
 
-  pub side-looked : (entries later : List Entry) (at : List ℕ) (side : Side) (manner : Manner) (left : List ℕ) (old new : Outside) (stop : Option End)
-      → IsSideOf row.path side at → IsLookedUp repo at By manner left entries old new stop
+  pub side-looked : (entries later : List Entry) (at : List ℕ) (side : Side) (mode : ResponseMode) (left : List ℕ) (old new : Outside) (stop : Option End)
+      → IsSideOf row.path side at → IsLookedUp repo at By mode left entries old new stop
       → IsLookedUp repo at
       (λ e m from to ending. Legal settings start (before ++ e ∷ later) → WasNamed settings start before repo row e.moment → ShowsSide side row.blob m from to ending)
-      manner left entries old new stop
-  side-looked entries later at side manner left old new stop beside (looked e more is looks seen) =
+      mode left entries old new stop
+  side-looked entries later at side mode left old new stop beside (looked e more is looks seen) =
       looked e more is looks (λ legal was.
       let gives = (named-answers settings apart start before later e repo row sound legal was).1 at [] beside.0 side looks beside.1 beside.2 in
-      text-shown (side_text side row.blob.print.digests) e.reply manner _ new stop gives seen)
-  side-looked entries later at side manner left old new stop beside (unread mid head_only to_head none reads seen) = unread mid head_only to_head none reads seen
-  side-looked entries later at side manner left old new stop beside (failed none rose still ends) = failed none rose still ends
+      text-shown (side_text side row.blob.print.digests) e.reply mode _ new stop gives seen)
+  side-looked entries later at side mode left old new stop beside (unread mid head_only to_head none reads seen) = unread mid head_only to_head none reads seen
+  side-looked entries later at side mode left old new stop beside (failed none rose still ends) = failed none rose still ends

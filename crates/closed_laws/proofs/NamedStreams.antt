@@ -7,7 +7,7 @@ use Rattle.repo_model.specs.State.{State}
 use Rattle.repo_laws.specs.Sound.{AreNamedApart, IsSound}
 use Rattle.repo_course.specs.Serving.{Outside, ServesStream, RequestTurn}
 use Rattle.repo_course.specs.declared.outcomes.End.{End}
-use Rattle.closed_laws.specs.Streams.{AllShowBehind, AllShowWhatWasNamed, AreTurns, Seen, ShowsWhatWasNamed}
+use Rattle.closed_laws.specs.Streams.{AllShowAfter, AllShowWhatWasNamed, AreTurns, Seen, ShowsWhatWasNamed}
 use Rattle.closed_laws.proofs.FirstLooks.{turn-answered}
 use Rattle.closed_laws.proofs.NamedServed.{file-answered, side-answered}
 
@@ -42,25 +42,25 @@ module _ (settings : Settings) (tells : Type 0) (apart : AreNamedApart settings.
       → Legal settings start (before ++ e ∷ (more ++ later))
   first-legal before entries more e later is legal = subst (λ (es : List Entry). Legal settings start (before ++ (es ++ later))) is legal
 
-  pub all-behind : (n : ℕ) (turns : List Seen) (before entries : List Entry) (old new : Outside) (ending : End) → Legal settings start (before ++ entries)
-      → AreTurns settings tells n turns entries old new ending → AllShowWhatWasNamed settings start old turns → AllShowBehind settings start before old turns
+  pub all-after : (n : ℕ) (turns : List Seen) (before entries : List Entry) (old new : Outside) (ending : End) → Legal settings start (before ++ entries)
+      → AreTurns settings tells n turns entries old new ending → AllShowWhatWasNamed settings start old turns → AllShowAfter settings start before old turns
   unfolding AreTurns
-  all-behind n [] before entries old new ending legal are show = tt
-  all-behind zero (turn ∷ turns) before entries old new ending legal are show = absurd are
-  all-behind (suc left) (turn ∷ turns) before entries old new ending legal (last, turned, inl (none, same, new_is, stops)) show = (
+  all-after n [] before entries old new ending legal are show = tt
+  all-after zero (turn ∷ turns) before entries old new ending legal are show = absurd are
+  all-after (suc left) (turn ∷ turns) before entries old new ending legal (last, turned, inl (none, same, new_is, stops)) show = (
     (λ more e is. show.0 before more more e is (subst (λ (es : List Entry). Legal settings start (before ++ es)) (same ∙ is) legal)),
-    subst (λ (ts : List Seen). AllShowBehind settings start (before ++ turn.entries) turn.new ts) (sym none) tt,
+    subst (λ (ts : List Seen). AllShowAfter settings start (before ++ turn.entries) turn.new ts) (sym none) tt,
   )
-  all-behind (suc left) (turn ∷ turns) before entries old new ending legal (last, turned, inr (rest, parts, goes_on, are)) show =
+  all-after (suc left) (turn ∷ turns) before entries old new ending legal (last, turned, inr (rest, parts, goes_on, are)) show =
       let all : Legal settings start (before ++ (turn.entries ++ rest)) = subst (λ (es : List Entry). Legal settings start (before ++ es)) parts legal in
       let behind : Legal settings start ((before ++ turn.entries) ++ rest) = subst (Legal settings start) (sym (append_assoc before turn.entries rest)) all in (
         (λ more e is. show.0 before more (more ++ rest) e is (first-legal before turn.entries more e rest is all)),
-        all-behind left turns (before ++ turn.entries) rest turn.new new ending behind are show.1,
+        all-after left turns (before ++ turn.entries) rest turn.new new ending behind are show.1,
       )
 
-  pub stream-behind : (n : ℕ) (before entries : List Entry) (old new : Outside) (ending : End) → Legal settings start (before ++ entries)
+  pub stream-after : (n : ℕ) (before entries : List Entry) (old new : Outside) (ending : End) → Legal settings start (before ++ entries)
       → ServesStream settings tells n entries old new ending
-      → (turns : List Seen) × AreTurns settings tells n turns entries old new ending × AllShowBehind settings start before old turns
-  stream-behind n before entries old new ending legal served =
+      → (turns : List Seen) × AreTurns settings tells n turns entries old new ending × AllShowAfter settings start before old turns
+  stream-after n before entries old new ending legal served =
       let (turns, are, show) = stream-shows n entries old new ending served in
-      (turns, are, all-behind n turns before entries old new ending legal are show)
+      (turns, are, all-after n turns before entries old new ending legal are show)

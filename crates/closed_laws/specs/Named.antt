@@ -13,10 +13,10 @@ use Rattle.repo_model.specs.State.{State, number_end, rows_of}
 use Rattle.repo_laws.specs.Closed.{AnswersDocument, named}
 use Rattle.repo_laws.specs.Described.{IsAmong}
 use Rattle.repo_course.specs.Serving.{Outside}
-use Rattle.repo_course.specs.declared.manner.Manner.{Manner}
+use Rattle.repo_course.specs.declared.mode.ResponseMode.{ResponseMode}
 use Rattle.repo_course.specs.declared.outcomes.End.{End}
-use Rattle.repo_course.specs.declared.said.Said.TheVariants as said
-use Rattle.closed_laws.specs.Answered.{ShowsFile, ShowsSaid}
+use Rattle.repo_course.specs.declared.response.Response.TheVariants as response
+use Rattle.closed_laws.specs.Answered.{ShowsFile, ShowsResponse}
 
 -- one of these entries answered a repository's document, or a side file of it, that names this row's file, and the grace after
 -- its moment is not over
@@ -32,13 +32,13 @@ pub record WasNamed (settings : Settings) (start : State) (before : List Entry) 
   pub in_time : now ≤ asked.moment + settings.grace
 
 -- the answer with the file of this blob, with the alternatives that it has; or 500 `spent` where no lease is left
-abbrev pub ShowsNamed : State → Blob → Manner → Outside → Outside → Option End → Type 0
-ShowsNamed s blob manner old new end =
-    ShowsFile manner blob old new end ⊎ ((s.yard.next_lease ≡ number_end) × ShowsSaid manner said.Spent old new end)
+abbrev pub ShowsNamed : State → Blob → ResponseMode → Outside → Outside → Option End → Type 0
+ShowsNamed s blob mode old new end =
+    ShowsFile mode blob old new end ⊎ ((s.yard.next_lease ≡ number_end) × ShowsResponse mode response.Spent old new end)
 
 -- the answer with the text of a side file of this blob
-abbrev pub ShowsSide : Side → Blob → Manner → Outside → Outside → Option End → Type 0
-ShowsSide side blob manner old new end = ShowsSaid manner (said.Text (side_text side blob.print.digests)) old new end
+abbrev pub ShowsSide : Side → Blob → ResponseMode → Outside → Outside → Option End → Type 0
+ShowsSide side blob mode old new end = ShowsResponse mode (response.Text (side_text side blob.print.digests)) old new end
 
 -- the path is that of a side file of the file at another
 abbrev pub IsSideOf : List ℕ → Side → List ℕ → Type 0

@@ -12,15 +12,15 @@ use Rattle.repo_course.specs.declared.outcomes.End.TheVariants as stream
 use Rattle.closed_laws.specs.Answered.{ReadShows}
 use Rattle.closed_laws.specs.Named.{IsSideOf, ShowsNamed, ShowsSide, WasNamed}
 
--- one turn: whether it is the last that may come, its entries, what is seen behind it, and how it ends the stream, if it does
+-- one turn: whether it is the last that may come, its entries, what is seen after it, and how it ends the stream, if it does
 pub record Seen : Type 0 where
   pub last : Bool
   pub entries : List Entry
   pub new : Outside
   pub stop : Option End
 
--- A stream of at most so many requests is these turns: each begins with what is seen behind the one before it, has the entries
--- behind those of that one, and lets the connection go on; the last ends it, or no more may come.
+-- A stream of at most so many requests is these turns: each begins with what is seen after the one before it, has the entries
+-- after those of that one, and lets the connection go on; the last ends it, or no more may come.
 unfoldable pub AreTurns : Settings → Type 0 → ℕ → List Seen → List Entry → Outside → Outside → End → Type 0
 AreTurns settings tells zero [] entries old new ending = (entries ≡ []) × (new ≡ old) × (ending ≡ stream.TurnLimit)
 AreTurns settings tells zero (turn ∷ turns) entries old new ending = ⊥
@@ -30,7 +30,7 @@ AreTurns settings tells (suc left) (turn ∷ turns) entries old new ending =
     × (((turns ≡ []) × (entries ≡ turn.entries) × (new ≡ turn.new) × (turn.stop ≡ Some ending))
     ⊎ ((rest : List Entry) × (entries ≡ turn.entries ++ rest) × (turn.stop ≡ None) × AreTurns settings tells left turns rest turn.new new ending))
 
--- this entry of a turn, behind those of a history, looks at a file that was named in time among them, or at a side file of it: then
+-- this entry of a turn, after those of a history, looks at a file that was named in time among them, or at a side file of it: then
 -- the turn shows that
 abbrev pub ShowsWhatWasNamed : Settings → State → List Entry → Entry → Outside → Seen → Type 0
 ShowsWhatWasNamed settings start before e old turn =
@@ -48,9 +48,9 @@ AllShowWhatWasNamed settings start old (turn ∷ turns) =
     ShowsWhatWasNamed settings start before e old turn)
     × AllShowWhatWasNamed settings start turn.new turns
 
--- so does the first entry of each of these turns, whose entries lie one after another behind these
-abbrev pub AllShowBehind : Settings → State → List Entry → Outside → List Seen → Type 0
-AllShowBehind settings start before old [] = Unit {0}
-AllShowBehind settings start before old (turn ∷ turns) =
+-- so does the first entry of each of these turns, whose entries lie one after another after these
+abbrev pub AllShowAfter : Settings → State → List Entry → Outside → List Seen → Type 0
+AllShowAfter settings start before old [] = Unit {0}
+AllShowAfter settings start before old (turn ∷ turns) =
     ((more : List Entry) (e : Entry) → turn.entries ≡ e ∷ more → ShowsWhatWasNamed settings start before e old turn)
-    × AllShowBehind settings start (before ++ turn.entries) turn.new turns
+    × AllShowAfter settings start (before ++ turn.entries) turn.new turns

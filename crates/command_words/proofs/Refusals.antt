@@ -20,7 +20,7 @@ some_kind [] e (inl memory) other = absurd (other memory)
 some_kind [] e (inr among) other = absurd among
 some_kind (kind ∷ kinds) e has other = refl
 
--- words at which the parse fails, and not for want of memory, ask for nothing
+-- words at which the parse fails, and not because memory ran out, ask for nothing
 pub refused : (app : App) (words : List Text) (e : Error) → app ≡ program → (is_simple_and_free app ≡ true → HasKind (fault_of app words) e)
     → kind_of e ≢ OutOfMemory → wanted_of words ≡ None
 refused app words e is has other =

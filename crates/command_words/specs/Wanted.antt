@@ -64,12 +64,12 @@ abbrev pub wanted_of : List Text → Option Wanted
 wanted_of words =
     if is_none_of (fault_of program words) then option_and_then wanted_by (subcommand_of program words) else None
 
--- the words ask for nothing, unless memory was wanting
+-- the words ask for nothing, unless memory ran out
 abbrev pub IsFault : Option Wanted → WordsFault → Type 0
 IsFault wanted Refused = wanted ≡ None
 IsFault wanted NoMemory = Unit {0}
 
--- an error of this kind is a refusal, unless memory was wanting
+-- an error of this kind is a refusal, unless memory ran out
 abbrev pub IsKind : ErrorKind → WordsFault → Type 0
 IsKind kind Refused = kind ≢ OutOfMemory
 IsKind kind NoMemory = Unit {0}

@@ -11,7 +11,7 @@ use clap::{ArgMatches, Error};
 use std::alloc::Global;
 use texts::Text;
 
-/// What the words behind the program's name ask for. Which words are the program's is `clap`'s reading of them, so
+/// What the words after the program's name ask for. Which words are the program's is `clap`'s reading of them, so
 /// `--at=5`, `--at +5` and options before the settings are; a word twice is not.
 pub fn read_words(alloc: Global, words: &[String]) -> Result<Wanted, WordsFault>
     ensures ok { IfOk result (λ wanted. spec.wanted_of (map string_bytes words.now) ≡ Some wanted) }

@@ -33,7 +33,7 @@ impl Rows {
         }
     }
 
-    /// The path of the `n`th turn. Behind the last row they rise.
+    /// The path of the `n`th turn. After the last row they rise.
     pub fn path(self, alloc: Global, n: u64) -> Result<String, AllocError> {
         let there = n.wrapping_mul(self.stride).checked_rem(self.rows);
         let row = if n < self.rows { there.unwrap_or(n) } else { n };

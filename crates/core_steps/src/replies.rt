@@ -51,7 +51,7 @@ pub(crate) fn digest_of(alloc: Global, digest: &Digest) -> Result<String, WorldF
     Ok(told)
 }
 
-/// Numbers, each behind a blank.
+/// Numbers, each after a blank.
 pub fn numbers_of(alloc: Global, numbers: &[u64]) -> Result<String, WorldFault> {
     let mut told: String = String::new(alloc);
     for number in numbers {

@@ -323,7 +323,7 @@ fn judged<W: Cores>(
     Ok(Some(yes_or_no(alloc, is_so)?))
 }
 
-/// Takes the step of a word and of those behind it: what is told of it.
+/// Takes the step of a word and of those after it: what is told of it.
 pub fn take<W: Cores>(
     world: &mut W,
     alloc: Global,

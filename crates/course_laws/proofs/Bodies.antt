@@ -138,7 +138,7 @@ refusal-then : {A B : Type 0} (step : Result A Refusal) (next : A → Result B R
 refusal-then (Ok value) next P first more = more value refl
 refusal-then (Err cause) next P first more = first
 
--- a refusal behind which the connection may go on comes once the length is known
+-- a refusal after which the connection may go on comes once the length is known
 abbrev Knows : Head → Refusal → Type 0
 Knows head cause = loses_place cause ≡ false → (length : ℕ) × (framing.length_of head ≡ Ok length)
 

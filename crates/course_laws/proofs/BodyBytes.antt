@@ -51,7 +51,7 @@ body-torn count input short = rw (lt-ltb (length input) count short)
 pub taken-torn : (n count : ℕ) (input : List ℕ) → length input < count → taken_body n count input ≡ Err took.Torn
 taken-torn n count input short = rw (lt-ltb (length input) count short)
 
--- where memory was wanted for a body nothing is written
+-- where memory ran out for a body nothing is written
 pub unwritten : (count : ℕ) (old mid : Outside) → Reads count (Err took.NoMemory) old mid → mid.output ≡ old.output
 unwritten count old mid (inl still) = ap (λ o. o.output) still
 unwritten count old mid (inr t) = ap (λ o. o.output) t.1.3

@@ -42,22 +42,22 @@ use Rattle.repo_routes.specs.declared.judging.Refused.{Refused}
 use Rattle.repo_course.specs.declared.fetched.FetchFault.{FetchFault}
 use Rattle.repo_course.specs.declared.fetched.Verdict.{Verdict}
 use Rattle.repo_course.specs.declared.fetched.Verdict.TheVariants as verdict
-use Rattle.repo_course.specs.declared.manner.Manner.{Manner}
+use Rattle.repo_course.specs.declared.mode.ResponseMode.{ResponseMode}
 use Rattle.repo_course.specs.declared.outcomes.Sent.{Sent}
 use Rattle.repo_course.specs.declared.outcomes.Sent.TheVariants as sent
-use Rattle.repo_course.specs.declared.said.Said.{Said}
-use Rattle.repo_course.specs.declared.said.Said.TheVariants.{NoMemory}
-use Rattle.repo_course.specs.Course.{Close, Course, Kept, asks, does, says, stops, speaks, send_file, fetch, store_fetched, after_fetch, after_land, after_look, after_store, answers, closes, course_of, fetch_fault, fetched, gives_any_up, is_group, lands, looks, manner_for, of_sent, of_store, refuses_head, rounds_of, said_missed, said_of, stores, tells, with_fault}
+use Rattle.repo_course.specs.declared.response.Response.{Response}
+use Rattle.repo_course.specs.declared.response.Response.TheVariants.{NoMemory}
+use Rattle.repo_course.specs.Course.{Close, Course, Kept, asks, does, says, stops, speaks, send_file, fetch, store_fetched, after_fetch, after_land, after_look, after_store, answers, closes, course_of, fetch_fault, fetched, gives_any_up, is_group, lands, looks, mode_for, of_sent, of_store, refuses_head, rounds_of, response_missed, response_of, stores, tells, with_fault}
 use Rattle.repo_course.specs.Meets.{IsOfPlan}
 use Rattle.course_laws.specs.Complete.{HadRoom, IsAnswer, IsComplete, HadRoomBy}
 use Rattle.course_laws.specs.Duties.{Keeps, MayAsk, Rounds, Stand, at_first, due_after, for_text, left_by, most_for, no_rounds, stand_after, stand_done, target_of}
 use Rattle.course_laws.proofs.Kept.{judged-keeps}
 use Rattle.course_laws.proofs.Rounds.{AreOnce, AreBelow, below-last, once-last, one-is-left}
-use Rattle.repo_course.specs.Deeds.{Sequel, goes_on, by_its_text, ends_by, sequel, rests}
-use Rattle.course_laws.specs.Deeds.{due_behind}
+use Rattle.repo_course.specs.IoActions.{Sequel, goes_on, by_its_text, ends_by, sequel, rests}
+use Rattle.course_laws.specs.IoActions.{due_behind}
 use Rattle.course_laws.proofs.Unsent.{text-due}
 
--- what is due is no want of memory
+-- what is due is no running out of memory
 abbrev IsHeard : Option Close → Type 0
 IsHeard (Some (speaks said)) = IsAnswer said
 IsHeard due = Unit {0}
@@ -111,70 +111,70 @@ module _ (settings : Settings) where
   no-look command s none may = tt
 
   -- a course that looks at nothing
-  module _ (by_text : List ℕ → Option Close) (texts : (bytes : List ℕ) → IsHeard (by_text bytes)) (manner : Manner) where
-    keeps-complete : (c : Course) (n : ℕ) (s : Stand) → Keeps by_text manner c n s → s.target ≡ None → IsHeard s.due → IsComplete settings c
+  module _ (by_text : List ℕ → Option Close) (texts : (bytes : List ℕ) → IsHeard (by_text bytes)) (mode : ResponseMode) where
+    keeps-complete : (c : Course) (n : ℕ) (s : Stand) → Keeps by_text mode c n s → s.target ≡ None → IsHeard s.due → IsComplete settings c
     keeps-complete (asks command next) zero s k none h = absurd k
     keeps-complete (asks command next) (suc n) s k none h = λ st e sound fits is some.
         keeps-complete (next e.reply) n (stand_after command e.reply s) (k.1 e.reply) none
         (subst IsHeard (any-rounds s.rounds command e.reply s.due (no-look command s none k.0)) (entry-heard command st e fits is some s.due h))
-    keeps-complete (does deed next) n s k none h = λ outcome room gives.
-        keeps-complete (next outcome) (left_by deed n) (stand_done by_text deed outcome s) (k.2 outcome) none (sequel-heard by_text texts (sequel deed outcome) room s.due h)
+    keeps-complete (does io_action next) n s k none h = λ outcome room gives.
+        keeps-complete (next outcome) (left_by io_action n) (stand_done by_text io_action outcome s) (k.2 outcome) none (sequel-heard by_text texts (sequel io_action outcome) room s.due h)
     keeps-complete (says said own) n s k none h = subst IsHeard k.1 h
     keeps-complete (stops end) n s k none h = tt
 
   -- a look, and all that may follow it
 
-  answers-complete : (manner : Manner) (said : Said) → IsAnswer said → IsComplete settings (answers manner said)
-  answers-complete manner NoMemory is = absurd is
-  answers-complete manner said is = is
+  answers-complete : (mode : ResponseMode) (said : Response) → IsAnswer said → IsComplete settings (answers mode said)
+  answers-complete mode NoMemory is = absurd is
+  answers-complete mode said is = is
 
   any-up-complete : (under : Option ℕ) (c : Course) → IsComplete settings c → IsComplete settings (gives_any_up under c)
   any-up-complete None c is = is
   any-up-complete (Some n) c is = λ st e sound fits same some. is
 
-  sent-complete : (blob : Blob) (manner : Manner) (result : Sent) → HadRoom (send_file blob manner) result → IsComplete settings (closes manner (of_sent manner result))
-  sent-complete blob manner sent.NoMemory room = absurd room
-  sent-complete blob manner _ room = tt
+  sent-complete : (blob : Blob) (mode : ResponseMode) (result : Sent) → HadRoom (send_file blob mode) result → IsComplete settings (closes mode (of_sent mode result))
+  sent-complete blob mode sent.NoMemory room = absurd room
+  sent-complete blob mode _ room = tt
 
-  missed-answer : (so_far : Verdict) → IsAnswer (said_missed so_far)
+  missed-answer : (so_far : Verdict) → IsAnswer (response_missed so_far)
   missed-answer (verdict.Unasked of_group) = tt
-  missed-answer (verdict.Gone of_group) = elim of_group as (λ b. IsAnswer (said_missed (verdict.Gone b))) [ true ↦ tt | false ↦ tt ]
+  missed-answer (verdict.Gone of_group) = elim of_group as (λ b. IsAnswer (response_missed (verdict.Gone b))) [ true ↦ tt | false ↦ tt ]
   missed-answer (verdict.First why) = tt
 
   -- what follows a look, where this follows a plan that comes
-  look-complete : (repo path tried : List ℕ) (manner : Manner) (so_far : Verdict) (behind : Plan → Course) (reply : Reply)
+  look-complete : (repo path tried : List ℕ) (mode : ResponseMode) (so_far : Verdict) (behind : Plan → Course) (reply : Reply)
       → IsHeard (due_after one_round (look repo path tried) reply None) → ((plan : Plan) → reply ≡ fetches plan → IsComplete settings (behind plan))
-      → IsComplete settings (after_look manner so_far behind reply)
-  look-complete repo path tried manner so_far behind (file lease blob) heard plans = λ result room gives st e sound fits same some. sent-complete blob manner result room
-  look-complete repo path tried manner so_far behind missed heard plans = answers-complete manner (said_missed so_far) (missed-answer so_far)
-  look-complete repo path tried manner so_far behind (fetches plan) heard plans = plans plan refl
-  look-complete repo path tried manner so_far behind reply heard plans = answers-complete manner (said_of reply) heard
+      → IsComplete settings (after_look mode so_far behind reply)
+  look-complete repo path tried mode so_far behind (file lease blob) heard plans = λ result room gives st e sound fits same some. sent-complete blob mode result room
+  look-complete repo path tried mode so_far behind missed heard plans = answers-complete mode (response_missed so_far) (missed-answer so_far)
+  look-complete repo path tried mode so_far behind (fetches plan) heard plans = plans plan refl
+  look-complete repo path tried mode so_far behind reply heard plans = answers-complete mode (response_of reply) heard
 
-  module _ (manner : Manner) (plan : Plan) (again : Course) (rest : IsComplete settings again) where
-    landed-complete : (outcome : Landing) (reply : Reply) → IsHeard (due_after one_round (land plan outcome) reply None) → IsComplete settings (after_land manner plan.draft again reply)
+  module _ (mode : ResponseMode) (plan : Plan) (again : Course) (rest : IsComplete settings again) where
+    landed-complete : (outcome : Landing) (reply : Reply) → IsHeard (due_after one_round (land plan outcome) reply None) → IsComplete settings (after_land mode plan.draft again reply)
     landed-complete outcome landed heard = rest
-    landed-complete outcome reply heard = any-up-complete plan.draft (tells manner reply) (answers-complete manner (said_of reply) heard)
+    landed-complete outcome reply heard = any-up-complete plan.draft (tells mode reply) (answers-complete mode (response_of reply) heard)
 
-    land-complete : (outcome : Landing) → IsComplete settings (lands manner plan again outcome)
+    land-complete : (outcome : Landing) → IsComplete settings (lands mode plan again outcome)
     land-complete outcome = λ st e sound fits is some. landed-complete outcome e.reply (entry-heard (land plan outcome) st e fits is some None tt)
 
-    kept-complete : (n : ℕ) (checked : Checked) (kept : Kept) → HadRoom (store_fetched n checked) kept → IsComplete settings (after_store manner plan again kept)
+    kept-complete : (n : ℕ) (checked : Checked) (kept : Kept) → HadRoom (store_fetched n checked) kept → IsComplete settings (after_store mode plan again kept)
     kept-complete n checked (Ok blob) room = land-complete (came.Got (got_file blob))
-    kept-complete n checked (Err unstored.Failed) room = any-up-complete plan.draft (closes manner (of_store unstored.Failed)) tt
+    kept-complete n checked (Err unstored.Failed) room = any-up-complete plan.draft (closes mode (of_store unstored.Failed)) tt
     kept-complete n checked (Err unstored.NoMemory) room = absurd room
 
-    stores-complete : (checked : Checked) (under : Option ℕ) → IsSome under → IsComplete settings (stores manner plan again checked under)
+    stores-complete : (checked : Checked) (under : Option ℕ) → IsSome under → IsComplete settings (stores mode plan again checked under)
     stores-complete checked None some = absurd (false≢true some)
     stores-complete checked (Some n) some = λ kept room gives. kept-complete n checked kept room
 
-    came-complete : (outcome : Came Content) → IsOfPlan plan (Some outcome) → IsComplete settings (fetched manner plan again outcome)
+    came-complete : (outcome : Came Content) → IsOfPlan plan (Some outcome) → IsComplete settings (fetched mode plan again outcome)
     came-complete (came.Got (content.File checked)) is = stores-complete checked plan.draft is.0
     came-complete _ is = land-complete _
 
-  round-complete : (manner : Manner) (plan : Plan) (again : Option FetchFault → Course) → ((why : Option FetchFault) → IsComplete settings (again why))
-      → IsComplete settings (does (fetch plan) (after_fetch manner plan again))
-  round-complete manner plan again rest None room gives = absurd room
-  round-complete manner plan again rest (Some outcome) room gives = came-complete manner plan (again (fetch_fault outcome)) (rest (fetch_fault outcome)) outcome gives
+  round-complete : (mode : ResponseMode) (plan : Plan) (again : Option FetchFault → Course) → ((why : Option FetchFault) → IsComplete settings (again why))
+      → IsComplete settings (does (fetch plan) (after_fetch mode plan again))
+  round-complete mode plan again rest None room gives = absurd room
+  round-complete mode plan again rest (Some outcome) room gives = came-complete mode plan (again (fetch_fault outcome)) (rest (fetch_fault outcome)) outcome gives
 
   -- a plan comes only in a state in which one is replied
   plan-comes : (st : State) (e : Entry) (repo path tried : List ℕ) (plan : Plan) → Fits settings st e → e.command ≡ look repo path tried → e.reply ≡ fetches plan
@@ -234,7 +234,7 @@ module _ (settings : Settings) where
       found (Some h) some = rows-no-plan h.rows path (kind path)
 
   -- so many fetches may come: none at a hosted repository, and else one for each member that was not tried
-  module _ (repo path : List ℕ) (manner : Manner) where
+  module _ (repo path : List ℕ) (mode : ResponseMode) where
     abbrev HasRounds : ℕ → List ℕ → Type 0
     HasRounds rounds tried =
         IsTrue (is_there repo settings) ⊎ (AreOnce tried × AreBelow (members_of repo settings) tried × (length tried + rounds ≡ members_of repo settings))
@@ -258,13 +258,13 @@ module _ (settings : Settings) where
         let more = length-append tried (plan.member ∷ []) in
         inr (once-last plan.member tried left.0 planned.fresh, below-last (members_of repo settings) plan.member tried left.1 planned.below, omega (arith, all, more))
 
-    looks-complete : (rounds : ℕ) (tried : List ℕ) (so_far : Verdict) → HasRounds rounds tried → IsComplete settings (looks manner rounds repo path tried so_far)
+    looks-complete : (rounds : ℕ) (tried : List ℕ) (so_far : Verdict) → HasRounds rounds tried → IsComplete settings (looks mode rounds repo path tried so_far)
     looks-complete zero tried so_far left = λ st e sound fits is some.
-        look-complete repo path tried manner so_far _ e.reply (entry-heard (look repo path tried) st e fits is some None tt)
+        look-complete repo path tried mode so_far _ e.reply (entry-heard (look repo path tried) st e fits is some None tt)
         (λ plan comes. absurd (no-plan-more st e tried plan sound fits is comes left))
     looks-complete (suc n) tried so_far left = λ st e sound fits is some.
-        look-complete repo path tried manner so_far _ e.reply (entry-heard (look repo path tried) st e fits is some None tt)
-        (λ plan comes. round-complete manner plan (λ why. looks manner n repo path (tried ++ plan.member ∷ []) (with_fault so_far why))
+        look-complete repo path tried mode so_far _ e.reply (entry-heard (look repo path tried) st e fits is some None tt)
+        (λ plan comes. round-complete mode plan (λ why. looks mode n repo path (tried ++ plan.member ∷ []) (with_fault so_far why))
         (λ why. looks-complete n (tried ++ plan.member ∷ []) (with_fault so_far why) (one-more-tried st e n tried plan sound fits is comes left)))
 
     -- before the first look
@@ -285,10 +285,10 @@ no-head-complete settings TooLong = tt
 intent-complete : (settings : Settings) (request : Judged) (last : Bool) (intent : Intent) → request.intent ≡ intent → IsIntent settings intent → IsComplete settings (course_of (Ok request) last)
 intent-complete settings request last (reads_path repo path of_sort) is kept =
     subst (λ (i : Intent). IsComplete settings (course_of (Ok (record request { intent = i })) last)) (sym is)
-    (looks-complete settings repo path (manner_for request last) (rounds_of of_sort) [] (verdict.Unasked (is_group of_sort))
-    (subst (λ (x : Sort). HasRounds settings repo path (manner_for request last) (rounds_of x) []) (sym kept.2) (first-rounds settings repo path (manner_for request last))))
+    (looks-complete settings repo path (mode_for request last) (rounds_of of_sort) [] (verdict.Unasked (is_group of_sort))
+    (subst (λ (x : Sort). HasRounds settings repo path (mode_for request last) (rounds_of x) []) (sym kept.2) (first-rounds settings repo path (mode_for request last))))
 intent-complete settings request last intent is kept =
-    keeps-complete settings (for_text request.intent) (text-due IsHeard tt tt (λ at. tt) request.intent) (manner_for request last) (course_of (Ok request) last) (most_for request.intent) (at_first request.expects request.intent)
+    keeps-complete settings (for_text request.intent) (text-due IsHeard tt tt (λ at. tt) request.intent) (mode_for request last) (course_of (Ok request) last) (most_for request.intent) (at_first request.expects request.intent)
     (judged-keeps (Ok request) last) (ap target_of is) tt
 
 pub judged-complete : (settings : Settings) (judged : Result Judged Refused) (last : Bool) → IfOk judged (IsJudged settings) → IsComplete settings (course_of judged last)

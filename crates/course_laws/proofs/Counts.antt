@@ -5,12 +5,12 @@ use Rattle.http_wire.specs.declared.answers.Answer.{Answer}
 use Rattle.repo_model.specs.History.{Entry}
 use Rattle.repo_model.specs.Settings.{Settings}
 use Rattle.repo_course.specs.Answers.{answer_of, memory_answer}
-use Rattle.repo_course.specs.Course.{Course, Deed, Outcome, asks, does, says, stops, end_of}
+use Rattle.repo_course.specs.Course.{Course, IoAction, Outcome, asks, does, says, stops, end_of}
 use Rattle.repo_course.specs.declared.outcomes.End.{End}
 use Rattle.repo_course.specs.Serving.{Does, Says, whole, memory, cut, Follows, Opens, clean, torn, failed, refused, unread_head, starved, served, Outside, ReadsOn, ServesStream, RequestTurn}
 pub use Rattle.course_laws.proofs.Rising.{NoneFell, Calm, not-risen, rose-before, calm-first, calm-then, grew, grew-then, from-is, still-grew, risen, Quiet, quiet-first, quiet-then, no-write-fault, no-blob-fault, no-read-fault}
-use Rattle.course_laws.proofs.Deeds.{deed-changes, sides-grew}
-use Rattle.repo_course.specs.Deeds.{sequel}
+use Rattle.course_laws.proofs.IoActions.{action-changes, sides-grew}
+use Rattle.repo_course.specs.IoActions.{sequel}
 
 reads-grew : (old new : Outside) → ReadsOn old new → NoneFell old new
 reads-grew old new t = from-is old (record old { input = t.0 }) new (grew old (record old { input = t.0 }) refl refl refl refl) t.1
@@ -34,19 +34,19 @@ opens-grew settings last old new c (starved head rest begins uses is) = reads-gr
 opens-grew settings last old new c (served head rest begins uses is) = reads-grew old new (rest, uses)
 
 module _ (tells : Type 0) where
-  pub deed-grew : (deed : Deed) (outcome : Outcome deed) (mine : List Entry) (old new : Outside) → Does tells deed outcome mine old new → NoneFell old new
-  deed-grew deed outcome mine old new t =
-      let c = deed-changes tells deed outcome mine old new t in
-      let sides = sides-grew (sequel deed outcome) old new c.sides in
+  pub action-grew : (io_action : IoAction) (outcome : Outcome io_action) (mine : List Entry) (old new : Outside) → Does tells io_action outcome mine old new → NoneFell old new
+  action-grew io_action outcome mine old new t =
+      let c = action-changes tells io_action outcome mine old new t in
+      let sides = sides-grew (sequel io_action outcome) old new c.sides in
       record { reads = sides.0; writes = sides.1; blobs = c.blobs; remote = c.remote.faults }
 
   pub follows-grew : (c : Course) (entries : List Entry) (old new : Outside) (end : Option End) → Follows tells c entries old new end → NoneFell old new
   follows-grew (asks command next) [] old new end f = absurd f
   follows-grew (asks command next) (e ∷ entries) old new end f = follows-grew (next e.reply) entries old new end f.1
-  follows-grew (does deed next) entries old new end f =
-      grew-then old f.3 new (deed-grew deed f.0 f.1 old f.3 f.5) (follows-grew (next f.0) f.2 f.3 new end f.6)
-  follows-grew (says said manner) entries old new end f =
-      says-grew (answer_of said manner) (memory_answer manner.head_only) (end_of manner) old new end f.1
+  follows-grew (does io_action next) entries old new end f =
+      grew-then old f.3 new (action-grew io_action f.0 f.1 old f.3 f.5) (follows-grew (next f.0) f.2 f.3 new end f.6)
+  follows-grew (says said mode) entries old new end f =
+      says-grew (answer_of said mode) (memory_answer mode.head_only) (end_of mode) old new end f.1
   follows-grew (stops next) entries old new end f = still-grew old new f.1
 
   module _ (settings : Settings) where

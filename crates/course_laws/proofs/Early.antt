@@ -13,23 +13,23 @@ use Rattle.repo_model.specs.Reply.{Reply, file, missed, draft, fetches, landed, 
 use Rattle.repo_model.specs.Settings.{Settings}
 use Rattle.repo_model.specs.State.{State}
 use Rattle.repo_course.specs.Answers.{answer_of, memory_answer}
-use Rattle.repo_course.specs.Course.{Close, Course, Deed, asks, does, says, stops, speaks, rests, end_of, said_missed, said_of}
+use Rattle.repo_course.specs.Course.{Close, Course, IoAction, asks, does, says, stops, speaks, rests, end_of, response_missed, response_of}
 use Rattle.repo_course.specs.declared.fetched.Verdict.{Verdict}
 use Rattle.repo_course.specs.declared.fetched.Verdict.TheVariants as verdict
-use Rattle.repo_course.specs.declared.manner.Manner.{Manner}
+use Rattle.repo_course.specs.declared.mode.ResponseMode.{ResponseMode}
 use Rattle.repo_course.specs.declared.outcomes.End.{End}
 use Rattle.repo_course.specs.declared.outcomes.End.TheVariants as stream
-use Rattle.repo_course.specs.declared.said.Said.{Said}
-use Rattle.repo_course.specs.declared.said.Said.TheVariants.{BlobDiffers, NoMemory}
+use Rattle.repo_course.specs.declared.response.Response.{Response}
+use Rattle.repo_course.specs.declared.response.Response.TheVariants.{BlobDiffers, NoMemory}
 use Rattle.repo_course.specs.Serving.{IsFrontOf, Follows, Outside, Says, whole, memory, cut, writes}
 use Rattle.course_laws.specs.AsPlayed.{RowsTold}
-use Rattle.course_laws.specs.Duties.{Keeps, MayAsk, MayDo, Rounds, Stand, due_after, due_planned, lent_after, manner_of, stand_after}
+use Rattle.course_laws.specs.Duties.{Keeps, MayAsk, MayDo, Rounds, Stand, due_after, due_planned, lent_after, mode_of, stand_after}
 use Rattle.course_laws.specs.Granted.{file_by}
 use Rattle.course_laws.specs.Faultless.{Played, Scene, due_entry, play, wrote}
 use Rattle.course_laws.proofs.Fetched.{Fetched}
 use Rattle.course_laws.proofs.Rising.{NoneFell, rose-before}
 
--- memory was wanted, behind what may stand there then, and that was answered or the sink failed in it; or the source or the sink failed
+-- memory ran out, after what may stand there then, and that was answered or the sink failed in it; or the source or the sink failed
 abbrev pub Ended : (So : Bool → List ℕ → Type 0) (head_only : Bool) (front part : List ℕ) → Outside → Outside → Option End → Type 0
 Ended So head_only front part old new end =
     let said = shown (memory_answer head_only) in
@@ -37,7 +37,7 @@ Ended So head_only front part old new end =
     ⊎ ((part ≡ []) × ((end ≡ Some stream.SourceFault) × Rose old.read_faults new.read_faults))
     ⊎ (((part ≡ []) ⊎ (IsFrontOf part said × So head_only front)) × ((end ≡ Some stream.SinkFault) × Rose old.write_faults new.write_faults))
 
--- it is as played up to some place, where memory was wanted, or the source or the sink failed
+-- it is as played up to some place, where memory ran out, or the source or the sink failed
 pub record Early (So : Bool → List ℕ → Type 0) (before written : List ℕ) (old new : Outside) (end : Option End) : Type 0 where
   pub front : List ℕ
   pub part : List ℕ
@@ -75,7 +75,7 @@ ended-so Then So head_only front front' part old new end is (inr (inl w)) = inr 
 ended-so Then So head_only front front' part old new end is (inr (inr (inl none, w))) = inr (inr (inl none, w))
 ended-so Then So head_only front front' part old new end is (inr (inr (inr begun, w))) = inr (inr (inr (begun.0, is begun.1), w))
 
--- behind bytes written first
+-- after bytes written first
 pub wrote-outcome : {spare : Fetched} (Then So : Bool → List ℕ → Type 0) (before first : List ℕ) (p : Played (Option End)) (old o : Outside) (s : State) (end : Option End)
     → ((alone : Bool) (front : List ℕ) → Then alone front → So alone (first ++ front)) → ComesTo spare Then (before ++ first) p old o s end → ComesTo spare So before (wrote first p) old o s end
 wrote-outcome Then So before first p old o s end grows (inl a) =
@@ -166,7 +166,7 @@ pub sink-failed : (So : Bool → List ℕ → Type 0) (front : List ℕ) (old ne
     → Rose old.write_faults new.write_faults → Ended So false front [] old new end
 sink-failed So front old new end ends rose = inr (inr (inl refl, (ends, rose)))
 
--- the answer was written, or the one that says want of memory, or a part of one
+-- the answer was written, or the one that says out of memory, or a part of one
 pub says-early : (So : Bool → List ℕ → Type 0) (answer : Answer) (head_only : Bool) → So head_only [] → (next : Option End) (old new : Outside) (end : Option End) (before : List ℕ)
     → Says answer (memory_answer head_only) next old new end → old.output ≡ Some before
     → ((new ≡ writes (shown answer) old) × (new.output ≡ Some (before ++ shown answer)) × (end ≡ next))
@@ -186,11 +186,11 @@ says-early So answer head_only so next old new end before (cut faults all part r
           (inr (inr (inr (subst (λ b. IsFrontOf part b) e front, so), (ends, risen))))
     ])
 
--- memory was wanted, and the answer that says so, or its head alone, was begun
+-- memory ran out, and the answer that says so, or its head alone, was begun
 abbrev pub SaysMemory : Bool → Outside → Outside → Option End → Type 0
 SaysMemory head_only old new end = Says (memory_answer head_only) (memory_answer head_only) (Some stream.Closed) old new end
 
--- want of memory is answered, whatever was to come
+-- running out of memory is answered, whatever was to come
 pub says-memory : (So : Bool → List ℕ → Type 0) (head_only : Bool) → So head_only [] → (old new : Outside) (end : Option End) (before written : List ℕ)
     → SaysMemory head_only old new end → old.output ≡ Some before → Early So before written old new end
 says-memory So head_only so old new end before written (whole is ends) out =
@@ -208,22 +208,22 @@ says-memory So head_only so old new end before written (cut faults all part rose
     )))
 
 -- what is said by replies alone
-abbrev pub IsTold : Said → Type 0
+abbrev pub IsTold : Response → Type 0
 IsTold (BlobDiffers recorded found) = ⊥
 IsTold said = Unit {0}
 
-said-told : (reply : Reply) → IsTold (said_of reply)
+said-told : (reply : Reply) → IsTold (response_of reply)
 said-told no_memory = tt
 said-told _ = tt
 
-missed-told : (so_far : Verdict) → IsTold (said_missed so_far)
+missed-told : (so_far : Verdict) → IsTold (response_missed so_far)
 missed-told (verdict.Unasked of_group) = tt
-missed-told (verdict.Gone of_group) = elim of_group as (λ b. IsTold (said_missed (verdict.Gone b))) [ true ↦ tt | false ↦ tt ]
+missed-told (verdict.Gone of_group) = elim of_group as (λ b. IsTold (response_missed (verdict.Gone b))) [ true ↦ tt | false ↦ tt ]
 missed-told (verdict.First why) = tt
 
 -- what a reply makes of what is due: it stays, or this is to be told
 abbrev pub Moves : (Option Close → Option Close) → Type 0
-Moves f = ((due : Option Close) → f due ≡ due) ⊎ ((what : Said) × ((due : Option Close) → f due ≡ Some (speaks what)) × IsTold what)
+Moves f = ((due : Option Close) → f due ≡ due) ⊎ ((what : Response) × ((due : Option Close) → f due ≡ Some (speaks what)) × IsTold what)
 
 planned-moves : (left : ℕ) → Moves (due_planned left)
 planned-moves zero = inr (NoMemory, (λ due. refl), tt)
@@ -231,7 +231,7 @@ planned-moves (suc n) = inl (λ due. refl)
 
 pub due-moves : (r : Rounds) (command : Command) (reply : Reply) → Moves (due_after r command reply)
 due-moves r (look repo path tried) (file lease blob) = inl (λ due. refl)
-due-moves r (look repo path tried) missed = inr (said_missed r.so_far, (λ due. refl), missed-told r.so_far)
+due-moves r (look repo path tried) missed = inr (response_missed r.so_far, (λ due. refl), missed-told r.so_far)
 due-moves r (look repo path tried) (fetches plan) = planned-moves r.left
 due-moves r (may_put place path) (draft n) = inl (λ due. refl)
 due-moves r (done lease) reply = inl (λ due. refl)
@@ -239,7 +239,7 @@ due-moves r (drop_draft n) reply = inl (λ due. refl)
 due-moves r (unlist repo) reply = inl (λ due. refl)
 due-moves r collect reply = inl (λ due. refl)
 due-moves r (land plan outcome) landed = inl (λ due. refl)
-due-moves r command reply = inr (said_of reply, (λ due. refl), said-told reply)
+due-moves r command reply = inr (response_of reply, (λ due. refl), said-told reply)
 
 -- once something is due it stays so, and no file is lent
 lent-stays : (command : Command) (reply : Reply) (s : Stand) (due : Close) → MayAsk command s → s.due ≡ Some due → (lent : Option Blob) → lent_after command reply lent ≡ lent
@@ -256,51 +256,51 @@ memory-due (unlist repo) s may can = absurd may
 memory-due collect s may can = absurd may
 memory-due _ s may can = (cc)
 
-pub nothing-due : (manner : Manner) (deed : Deed) (s : Stand) → MayDo manner deed s → s.due ≡ None
-nothing-due manner deed s may = may.0
+pub nothing-due : (mode : ResponseMode) (io_action : IoAction) (s : Stand) → MayDo mode io_action s → s.due ≡ None
+nothing-due mode io_action s may = may.0
 
 -- an answer is its head alone where those of the course are
-pub own-head : (said : Said) (unread : Option ℕ) (manner : Manner) → (manner_of said unread manner).head_only ≡ manner.head_only
-own-head NoMemory unread manner = refl
-own-head _ unread manner = refl
+pub own-head : (said : Response) (unread : Option ℕ) (mode : ResponseMode) → (mode_of said unread mode).head_only ≡ mode.head_only
+own-head NoMemory unread mode = refl
+own-head _ unread mode = refl
 
 -- how a course ends by what is due, where this body is not read
-abbrev pub EndsAs : Manner → Option ℕ → Close → Outside → Outside → Option End → Type 0
-EndsAs manner unread (speaks said) old new end =
-    let own = manner_of said unread manner in
+abbrev pub EndsAs : ResponseMode → Option ℕ → Close → Outside → Outside → Option End → Type 0
+EndsAs mode unread (speaks said) old new end =
+    let own = mode_of said unread mode in
     Says (answer_of said own) (memory_answer own.head_only) (end_of own) old new end
-EndsAs manner unread (rests next) old new end = (new ≡ old) × (end ≡ next)
+EndsAs mode unread (rests next) old new end = (new ≡ old) × (end ≡ next)
 
 -- a course of which something is due asks no more than it must, and ends so; no file is lent any more
-pub ends-due : (tells : Type 0) (by_text : List ℕ → Option Close) (manner : Manner) (c : Course) (n : ℕ) (s : Stand) (due : Close) → Keeps by_text manner c n s
+pub ends-due : (tells : Type 0) (by_text : List ℕ → Option Close) (mode : ResponseMode) (c : Course) (n : ℕ) (s : Stand) (due : Close) → Keeps by_text mode c n s
     → s.due ≡ Some due → (entries : List Entry) (old new : Outside) (end : Option End) → Follows tells c entries old new end
-    → EndsAs manner s.unread due old new end × ((lent : Option Blob) → file_by entries lent ≡ lent)
-ends-due tells by_text manner (asks command next) zero s due k is [] old new end f = absurd f
-ends-due tells by_text manner (asks command next) zero s due k is (e ∷ entries) old new end f = absurd k
-ends-due tells by_text manner (asks command next) (suc n) s due k is [] old new end f = absurd f
-ends-due tells by_text manner (asks command next) (suc n) s due k is (e ∷ entries) old new end f =
-    let rest = ends-due tells by_text manner (next e.reply) n (stand_after command e.reply s) due (k.1 e.reply) (still-due command e.reply s due k.0 is) entries old new end f.1 in (
+    → EndsAs mode s.unread due old new end × ((lent : Option Blob) → file_by entries lent ≡ lent)
+ends-due tells by_text mode (asks command next) zero s due k is [] old new end f = absurd f
+ends-due tells by_text mode (asks command next) zero s due k is (e ∷ entries) old new end f = absurd k
+ends-due tells by_text mode (asks command next) (suc n) s due k is [] old new end f = absurd f
+ends-due tells by_text mode (asks command next) (suc n) s due k is (e ∷ entries) old new end f =
+    let rest = ends-due tells by_text mode (next e.reply) n (stand_after command e.reply s) due (k.1 e.reply) (still-due command e.reply s due k.0 is) entries old new end f.1 in (
       rest.0,
       λ lent. ap (λ (c : Command). file_by entries (lent_after c e.reply lent)) f.0 ∙ ap (file_by entries) (lent-stays command e.reply s due k.0 is lent) ∙ rest.1 lent,
     )
-ends-due tells by_text manner (does deed next) n s due k is entries old new end f = absurd (none-some due (sym (nothing-due manner deed s k.0) ∙ is))
-ends-due tells by_text manner (says said own) n s due k is entries old new end f =
+ends-due tells by_text mode (does io_action next) n s due k is entries old new end f = absurd (none-some due (sym (nothing-due mode io_action s k.0) ∙ is))
+ends-due tells by_text mode (says said own) n s due k is entries old new end f =
     let due-is : speaks said ≡ due = (cc) in (
-      subst (λ d. EndsAs manner s.unread d old new end) due-is
-          (subst (λ (m : Manner). Says (answer_of said m) (memory_answer m.head_only) (end_of m) old new end) k.2 f.1),
+      subst (λ d. EndsAs mode s.unread d old new end) due-is
+          (subst (λ (m : ResponseMode). Says (answer_of said m) (memory_answer m.head_only) (end_of m) old new end) k.2 f.1),
       λ lent. ap (λ (es : List Entry). file_by es lent) f.0,
     )
-ends-due tells by_text manner (stops next) n s due k is entries old new end f =
+ends-due tells by_text mode (stops next) n s due k is entries old new end f =
     let due-is : rests next ≡ due = (cc) in
-    (subst (λ d. EndsAs manner s.unread d old new end) due-is (f.1, f.2), λ lent. ap (λ (es : List Entry). file_by es lent) f.0)
+    (subst (λ d. EndsAs mode s.unread d old new end) due-is (f.1, f.2), λ lent. ap (λ (es : List Entry). file_by es lent) f.0)
 
 -- the same where it is played, and no answer is due
-pub plays-due : (settings : Settings) (by_text : List ℕ → Option Close) (manner : Manner) (c : Course) (n : ℕ) (s : Stand) (end : Option End) → Keeps by_text manner c n s
+pub plays-due : (settings : Settings) (by_text : List ℕ → Option Close) (mode : ResponseMode) (c : Course) (n : ℕ) (s : Stand) (end : Option End) → Keeps by_text mode c n s
     → s.due ≡ Some (rests end) → (scene : Scene) → ((play settings c scene).written ≡ []) × ((play settings c scene).end ≡ end)
-plays-due settings by_text manner (asks command next) zero s end k is scene = absurd k
-plays-due settings by_text manner (asks command next) (suc n) s end k is scene =
+plays-due settings by_text mode (asks command next) zero s end k is scene = absurd k
+plays-due settings by_text mode (asks command next) (suc n) s end k is scene =
     let reply = (due_entry settings scene.state command).reply in
-    plays-due settings by_text manner (next reply) n (stand_after command reply s) end (k.1 reply) (still-due command reply s (rests end) k.0 is) _
-plays-due settings by_text manner (does deed next) n s end k is scene = absurd (none-some (rests end) (sym (nothing-due manner deed s k.0) ∙ is))
-plays-due settings by_text manner (says said own) n s end k is scene = let due-is : speaks said ≡ rests end = (cc) in absurd (cc)
-plays-due settings by_text manner (stops next) n s end k is scene = let due-is : rests next ≡ rests end = (cc) in (refl, (cc))
+    plays-due settings by_text mode (next reply) n (stand_after command reply s) end (k.1 reply) (still-due command reply s (rests end) k.0 is) _
+plays-due settings by_text mode (does io_action next) n s end k is scene = absurd (none-some (rests end) (sym (nothing-due mode io_action s k.0) ∙ is))
+plays-due settings by_text mode (says said own) n s end k is scene = let due-is : speaks said ≡ rests end = (cc) in absurd (cc)
+plays-due settings by_text mode (stops next) n s end k is scene = let due-is : rests next ≡ rests end = (cc) in (refl, (cc))

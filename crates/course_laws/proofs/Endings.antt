@@ -23,8 +23,8 @@ use Rattle.repo_routes.specs.Judge.{IsIntent, intent_of, judge, outcome_of}
 use Rattle.repo_routes.proofs.KeptLemmas.{intent-kept}
 use Rattle.repo_routes.specs.declared.judging.Refused.{Refused}
 use Rattle.repo_routes.specs.declared.refusal.Refusal.{Refusal}
-use Rattle.repo_course.specs.Course.{Close, Course, Deed, Outcome, asks, does, says, stops, speaks, rests, clean_all, end_of, rounds_of}
-use Rattle.repo_course.specs.declared.manner.Manner.{Manner}
+use Rattle.repo_course.specs.Course.{Close, Course, IoAction, Outcome, asks, does, says, stops, speaks, rests, clean_all, end_of, rounds_of}
+use Rattle.repo_course.specs.declared.mode.ResponseMode.{ResponseMode}
 use Rattle.repo_course.specs.declared.outcomes.End.{End}
 use Rattle.repo_course.specs.declared.outcomes.End.TheVariants as stream
 use Rattle.repo_course.specs.Serving.{Does, Follows, Opens, clean, torn, failed, refused, unread_head, starved, served, Outside, Says, whole, memory, cut, ServesStream, RequestTurn}
@@ -34,9 +34,9 @@ use Rattle.course_laws.proofs.Passes.{passes-few}
 use Rattle.course_laws.proofs.Early.{due-moves, nothing-due, still-due}
 use Rattle.course_laws.proofs.Kept.{duty_at, opens-keeps}
 use Rattle.course_laws.proofs.Unsent.{IsUnsent, judged-unsent}
-use Rattle.repo_course.specs.Deeds.{Sequel, goes_on, by_its_text, ends_by, sequel}
-use Rattle.course_laws.specs.Deeds.{due_behind}
-use Rattle.course_laws.proofs.Deeds.{Shows, ShowsBy, calm_shows, deed-changes}
+use Rattle.repo_course.specs.IoActions.{Sequel, goes_on, by_its_text, ends_by, sequel}
+use Rattle.course_laws.specs.IoActions.{due_behind}
+use Rattle.course_laws.proofs.IoActions.{Shows, ShowsBy, calm_shows, action-changes}
 
 abbrev Caused : Option Close → Outside → Outside → Type 0
 Caused (Some (rests end)) old now = Shows end old now
@@ -65,7 +65,7 @@ counts : (old new : Outside) {input output : Option (List ℕ)} {blobs : ℕ} {s
     → NoneRose old new
 counts old new is = (ap (λ (o : Outside). o.read_faults) is, ap (λ (o : Outside). o.write_faults) is)
 
--- the sink failed behind counts that stood still, or the source
+-- the sink failed after counts that stood still, or the source
 sink-shows : (old mid new : Outside) (faults : ℕ) {input output : Option (List ℕ)} → NoneRose old mid → Rose mid.write_faults faults
     → new ≡ record mid { input = input; output = output; write_faults = faults } → Shows (Some stream.SinkFault) old new
 sink-shows old mid new faults n rose is = (
@@ -99,12 +99,12 @@ sequel_caused by_text texts (ends_by (speaks said)) old mid new n t = none-then 
 sequel_caused by_text texts (ends_by (rests None)) old mid new n t = none-then old mid new n t
 sequel_caused by_text texts (ends_by (rests (Some end))) old mid new n t = from_same end old mid new n t
 
-says_shows : (answer memory_said : Answer) (manner : Manner) (end : Option End) (old mid new : Outside) → NoneRose old mid
-    → Says answer memory_said (end_of manner) mid new end → Shows end old new
-says_shows answer memory_said manner end old mid new n (whole is ends) =
-    subst (λ e. Shows e old new) (sym ends) (calm_shows manner old new (none-then old mid new n (counts mid new is)))
-says_shows answer memory_said manner end old mid new n (memory is ends) = subst (λ e. Shows e old new) (sym ends) (none-then old mid new n (counts mid new is))
-says_shows answer memory_said manner end old mid new n (cut faults all part rose which front is ends) =
+says_shows : (answer memory_said : Answer) (mode : ResponseMode) (end : Option End) (old mid new : Outside) → NoneRose old mid
+    → Says answer memory_said (end_of mode) mid new end → Shows end old new
+says_shows answer memory_said mode end old mid new n (whole is ends) =
+    subst (λ e. Shows e old new) (sym ends) (calm_shows mode old new (none-then old mid new n (counts mid new is)))
+says_shows answer memory_said mode end old mid new n (memory is ends) = subst (λ e. Shows e old new) (sym ends) (none-then old mid new n (counts mid new is))
+says_shows answer memory_said mode end old mid new n (cut faults all part rose which front is ends) =
     subst (λ e. Shows e old new) (sym ends) (sink-shows old mid new faults n rose is)
 
 -- before the first step
@@ -127,19 +127,19 @@ opens-unsent settings last old new c (served head rest begins uses is) bytes = j
 opens-unsent settings last old new c _ bytes = tt
 
 module _ (tells : Type 0) where
-  module _ (by_text : List ℕ → Option Close) (manner : Manner) where
-    follows_shows : ((bytes : List ℕ) → IsUnsent (by_text bytes)) → (c : Course) (n : ℕ) (s : Stand) → Keeps by_text manner c n s → (entries : List Entry)
+  module _ (by_text : List ℕ → Option Close) (mode : ResponseMode) where
+    follows_shows : ((bytes : List ℕ) → IsUnsent (by_text bytes)) → (c : Course) (n : ℕ) (s : Stand) → Keeps by_text mode c n s → (entries : List Entry)
         (old mid new : Outside) (end : Option End) → Caused s.due old mid → Follows tells c entries mid new end → Shows end old new
     follows_shows texts (asks command next) zero s k [] old mid new end c f = absurd f
     follows_shows texts (asks command next) zero s k (e ∷ entries) old mid new end c f = absurd k
     follows_shows texts (asks command next) (suc n) s k [] old mid new end c f = absurd f
     follows_shows texts (asks command next) (suc n) s k (e ∷ entries) old mid new end c f =
         follows_shows texts (next e.reply) n (stand_after command e.reply s) (k.1 e.reply) entries old mid new end (reply_caused command e.reply s old mid k.0 c) f.1
-    follows_shows texts (does deed next) n s k entries old mid new end c f =
-        let none = nothing-due manner deed s k.0 in
-        follows_shows texts (next f.0) (left_by deed n) (stand_done by_text deed f.0 s) (k.2 f.0) f.2 old f.3 new end
-        (subst (λ d. Caused (due_done by_text deed f.0 d) old f.3) (sym none)
-        (sequel_caused by_text texts (sequel deed f.0) old mid f.3 (subst (λ d. Caused d old mid) none c) (deed-changes tells deed f.0 f.1 mid f.3 f.5).sides)) f.6
+    follows_shows texts (does io_action next) n s k entries old mid new end c f =
+        let none = nothing-due mode io_action s k.0 in
+        follows_shows texts (next f.0) (left_by io_action n) (stand_done by_text io_action f.0 s) (k.2 f.0) f.2 old f.3 new end
+        (subst (λ d. Caused (due_done by_text io_action f.0 d) old f.3) (sym none)
+        (sequel_caused by_text texts (sequel io_action f.0) old mid f.3 (subst (λ d. Caused d old mid) none c) (action-changes tells io_action f.0 f.1 mid f.3 f.5).sides)) f.6
     follows_shows texts (says said own) n s k entries old mid new end c f =
         says_shows (answer_of said own) (memory_answer own.head_only) own end old mid new (subst (λ d. Caused d old mid) k.1 c) f.1
     follows_shows texts (stops next) n s k entries old mid new end c f =
@@ -148,23 +148,23 @@ module _ (tells : Type 0) where
     none-few : (mine : List Entry) (later n : ℕ) → mine ≡ [] → later ≤ n → length mine + later ≤ n
     none-few mine later n none few = let is = ap length none in omega (arith, is)
 
-    -- a deed asks no more than it may, and leaves the rest
-    deed-few : (deed : Deed) (outcome : Outcome deed) (mine : List Entry) (old new : Outside) (later n : ℕ) → asked_by deed ≤ n → later ≤ left_by deed n
-        → Does tells deed outcome mine old new → length mine + later ≤ n
-    deed-few (clean_all repos) pass mine old new later n most few t = let asked = passes-few repos mine _ t.0 pass t.1 in omega (arith, asked, most, few)
-    deed-few _ outcome mine old new later n most few t = none-few mine later n t.0 few
+    -- an I/O action asks no more than it may, and leaves the rest
+    action-few : (io_action : IoAction) (outcome : Outcome io_action) (mine : List Entry) (old new : Outside) (later n : ℕ) → asked_by io_action ≤ n → later ≤ left_by io_action n
+        → Does tells io_action outcome mine old new → length mine + later ≤ n
+    action-few (clean_all repos) pass mine old new later n most few t = let asked = passes-few repos mine _ t.0 pass t.1 in omega (arith, asked, most, few)
+    action-few _ outcome mine old new later n most few t = none-few mine later n t.0 few
 
     -- the commands of a request are few
-    follows_few : (c : Course) (n : ℕ) (s : Stand) → Keeps by_text manner c n s → (entries : List Entry) (old new : Outside) (end : Option End)
+    follows_few : (c : Course) (n : ℕ) (s : Stand) → Keeps by_text mode c n s → (entries : List Entry) (old new : Outside) (end : Option End)
         → Follows tells c entries old new end → length entries ≤ n
     follows_few (asks command next) zero s k [] old new end f = absurd f
     follows_few (asks command next) zero s k (e ∷ entries) old new end f = absurd k
     follows_few (asks command next) (suc n) s k [] old new end f = absurd f
     follows_few (asks command next) (suc n) s k (e ∷ entries) old new end f =
         let less = follows_few (next e.reply) n (stand_after command e.reply s) (k.1 e.reply) entries old new end f.1 in omega arith
-    follows_few (does deed next) n s k entries old new end f =
-        let less = follows_few (next f.0) (left_by deed n) (stand_done by_text deed f.0 s) (k.2 f.0) f.2 f.3 new end f.6 in
-        let few = deed-few deed f.0 f.1 old f.3 (length f.2) n k.1 less f.5 in
+    follows_few (does io_action next) n s k entries old new end f =
+        let less = follows_few (next f.0) (left_by io_action n) (stand_done by_text io_action f.0 s) (k.2 f.0) f.2 f.3 new end f.6 in
+        let few = action-few io_action f.0 f.1 old f.3 (length f.2) n k.1 less f.5 in
         let all = ap length f.4 ∙ length-append f.1 f.2 in omega (arith, few, all)
     follows_few (says said own) n s k entries old new end f = let none = ap length f.0 in omega arith
     follows_few (stops next) n s k entries old new end f = let none = ap length f.0 in omega arith
@@ -226,7 +226,7 @@ module _ (tells : Type 0) where
 
     turn_shows : (last : Bool) (entries : List Entry) (old new : Outside) (end : Option End) → RequestTurn settings tells last entries old new end → Shows end old new
     turn_shows last entries old new end (c, mid, o, f) =
-        follows_shows (duty_at o).by_text (duty_at o).manner (opens-unsent settings last old mid c o) c (duty_at o).most (duty_at o).stand (opens-keeps settings last old mid c o) entries old mid new end
+        follows_shows (duty_at o).by_text (duty_at o).mode (opens-unsent settings last old mid c o) c (duty_at o).most (duty_at o).stand (opens-keeps settings last old mid c o) entries old mid new end
         (opens_caused settings last old mid c o) f
 
     pub serves_shows : (n : ℕ) (entries : List Entry) (old new : Outside) (end : End) → ServesStream settings tells n entries old new end
@@ -240,7 +240,7 @@ module _ (tells : Type 0) where
     turn_few : (last : Bool) (entries : List Entry) (old new : Outside) (end : Option End) → RequestTurn settings tells last entries old new end
         → length entries ≤ most_asked settings
     turn_few last entries old new end (c, mid, o, f) =
-        let asked = follows_few (duty_at o).by_text (duty_at o).manner c (duty_at o).most (duty_at o).stand (opens-keeps settings last old mid c o) entries mid new end f in
+        let asked = follows_few (duty_at o).by_text (duty_at o).mode c (duty_at o).most (duty_at o).stand (opens-keeps settings last old mid c o) entries mid new end f in
         let few = asking-few last old mid c o in omega (arith, asked, few)
 
     pub serves_few : (n : ℕ) (entries : List Entry) (old new : Outside) (end : End) → ServesStream settings tells n entries old new end

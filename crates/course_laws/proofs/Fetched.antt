@@ -11,37 +11,37 @@ use Rattle.repo_model.specs.Command.{Command, look}
 use Rattle.repo_model.specs.History.{Entry}
 use Rattle.repo_model.specs.Reply.{Reply}
 use Rattle.repo_course.specs.Answers.{answer_of, memory_answer}
-use Rattle.repo_course.specs.Course.{Course, Deed, Fetch, Outcome, asks, does, says, stops, fetch, end_of}
+use Rattle.repo_course.specs.Course.{Course, IoAction, Fetch, Outcome, asks, does, says, stops, fetch, end_of}
 use Rattle.repo_course.specs.declared.outcomes.End.{End}
 use Rattle.repo_course.specs.declared.outcomes.End.TheVariants as stream
 use Rattle.repo_course.specs.Serving.{Does, Fetches, Follows, Outside, Says, whole, memory, cut}
 use Rattle.course_laws.specs.AsPlayed.{AreFetched, IsFetch, planned_by, plans_of}
-use Rattle.course_laws.proofs.Passes.{ArePass, IsPassCommand, deed-asks}
+use Rattle.course_laws.proofs.Passes.{ArePass, IsPassCommand, action-asks}
 use Rattle.course_laws.proofs.Planned.{AsPlanned, Ends}
 use Rattle.course_laws.proofs.Remotes.{says-still}
 use Rattle.course_laws.proofs.Fetching.{Still}
-pub use Rattle.course_laws.proofs.Deeds.{Fetched, Uses}
-use Rattle.course_laws.proofs.Deeds.{FetchesNone, deed-changes}
+pub use Rattle.course_laws.proofs.IoActions.{Fetched, Uses}
+use Rattle.course_laws.proofs.IoActions.{FetchesNone, action-changes}
 
 -- a course is followed to its end, and uses what its fetches come to
 abbrev pub FollowsBy : Type 0 → Course → List Entry → Fetched → Fetched → Outside → Outside → Option End → Type 0
 FollowsBy tells (asks command next) [] coming spare old new end = ⊥
 FollowsBy tells (asks command next) (entry ∷ entries) coming spare old new end =
     (entry.command ≡ command) × FollowsBy tells (next entry.reply) entries coming spare old new end
-FollowsBy tells (does deed next) entries coming spare old new end =
-    (outcome : Outcome deed) × (mine later : List Entry) × (mid : Outside) × (entries ≡ mine ++ later) × Does tells deed outcome mine old mid
-    × (unused : Fetched) × Uses deed outcome coming unused × FollowsBy tells (next outcome) later unused spare mid new end
-FollowsBy tells (says said manner) entries coming spare old new end =
-    (entries ≡ []) × Says (answer_of said manner) (memory_answer manner.head_only) (end_of manner) old new end × (coming ≡ spare)
+FollowsBy tells (does io_action next) entries coming spare old new end =
+    (outcome : Outcome io_action) × (mine later : List Entry) × (mid : Outside) × (entries ≡ mine ++ later) × Does tells io_action outcome mine old mid
+    × (unused : Fetched) × Uses io_action outcome coming unused × FollowsBy tells (next outcome) later unused spare mid new end
+FollowsBy tells (says said mode) entries coming spare old new end =
+    (entries ≡ []) × Says (answer_of said mode) (memory_answer mode.head_only) (end_of mode) old new end × (coming ≡ spare)
 FollowsBy tells (stops next) entries coming spare old new end = (entries ≡ []) × (new ≡ old) × (end ≡ next) × (coming ≡ spare)
 
 pub plain : (tells : Type 0) (c : Course) (entries : List Entry) (coming spare : Fetched) (old new : Outside) (end : Option End)
     → FollowsBy tells c entries coming spare old new end → Follows tells c entries old new end
 plain tells (asks command next) [] coming spare old new end f = f
 plain tells (asks command next) (e ∷ entries) coming spare old new end f = (f.0, plain tells (next e.reply) entries coming spare old new end f.1)
-plain tells (does deed next) entries coming spare old new end f =
+plain tells (does io_action next) entries coming spare old new end f =
     (f.0, f.1, f.2, f.3, f.4, f.5, plain tells (next f.0) f.2 f.6 spare f.3 new end f.8)
-plain tells (says said manner) entries coming spare old new end f = (f.0, f.1)
+plain tells (says said mode) entries coming spare old new end f = (f.0, f.1)
 plain tells (stops next) entries coming spare old new end f = (f.0, f.1, f.2)
 
 -- nothing was fetched before
@@ -71,9 +71,9 @@ pass-plans [] pass = refl
 pass-plans (e ∷ entries) pass = ap (λ (plans : List Plan). plans ++ plans_of entries) (unplanned e.command e.reply pass.0) ∙ pass-plans entries pass.1
 
 -- only a fetch uses what fetches come to
-none-used : (deed : Deed) (outcome : Outcome deed) (spare : Fetched) → FetchesNone deed → Uses deed outcome spare spare
+none-used : (io_action : IoAction) (outcome : Outcome io_action) (spare : Fetched) → FetchesNone io_action → Uses io_action outcome spare spare
 none-used (fetch plan) outcome spare none = absurd none
-none-used deed outcome spare none = refl
+none-used io_action outcome spare none = refl
 
 -- an answer that closes ends the stream
 closed : (answer memory_said : Answer) (close : Bool) (old new : Outside) (end : Option End) → close ≡ true
@@ -83,7 +83,7 @@ closed answer memory_said close old new end closes (whole is ends) none =
 closed answer memory_said close old new end closes (memory is ends) none = none-some stream.Closed (sym none ∙ ends)
 closed answer memory_said close old new end closes (cut faults all part rose which front is ends) none = none-some stream.SinkFault (sym none ∙ ends)
 
--- the stream goes on, or nothing is fetched behind it
+-- the stream goes on, or nothing is fetched after it
 abbrev pub IsLast : List Plan → Fetched → Option End → Type 0
 IsLast later spare end = (end ≡ None) ⊎ ((later ≡ []) × (spare ≡ []))
 
@@ -108,11 +108,11 @@ module _ (tells : Type 0) (last : Sees) where
         still = rest.still;
         follows = (f.0, rest.follows);
       }
-  ended (does deed next) so entries spare old new end f = absurd so
-  ended (says said manner) so entries spare old new end f = record {
+  ended (does io_action next) so entries spare old new end f = absurd so
+  ended (says said mode) so entries spare old new end f = record {
     unplanned = ap plans_of f.0;
-    ends = closed (answer_of said manner) (memory_answer manner.head_only) manner.close old new end so f.1;
-    still = says-still (answer_of said manner) (memory_answer manner.head_only) (end_of manner) old new end f.1;
+    ends = closed (answer_of said mode) (memory_answer mode.head_only) mode.close old new end so f.1;
+    still = says-still (answer_of said mode) (memory_answer mode.head_only) (end_of mode) old new end f.1;
     follows = (f.0, f.1, refl);
   }
   ended (stops next) so entries spare old new end f = absurd so
@@ -134,21 +134,21 @@ module _ (tells : Type 0) (last : Sees) where
       )
 
   -- a plan is fetched
-  made : (deed : Deed) (outcome : Outcome deed) (plan : Plan) → deed ≡ fetch plan → (mine : List Entry) (old mid : Outside) → Does tells deed outcome mine old mid → (plans : List Plan) (spare : Fetched)
-      → AreFetched plans spare mid.remote last → (coming : Fetched) × Uses deed outcome coming spare × AreFetched (plan ∷ plans) coming old.remote last
+  made : (io_action : IoAction) (outcome : Outcome io_action) (plan : Plan) → io_action ≡ fetch plan → (mine : List Entry) (old mid : Outside) → Does tells io_action outcome mine old mid → (plans : List Plan) (spare : Fetched)
+      → AreFetched plans spare mid.remote last → (coming : Fetched) × Uses io_action outcome coming spare × AreFetched (plan ∷ plans) coming old.remote last
   made (fetch other) came plan is mine old mid did plans spare are =
       let same : other ≡ plan = cc in
       (came ∷ spare, refl, (mid.remote, subst (λ (p : Plan). IsFetch p came old.remote mid.remote) same (is-fetch other came old mid did.1), are))
   made _ outcome plan is mine old mid did plans spare are = absurd (cc)
 
-  -- the plans of what a deed asked, which are none, and of what follows
-  plans-behind : (deed : Deed) (outcome : Outcome deed) (entries mine rest : List Entry) (later : List Plan) (old mid : Outside) → entries ≡ mine ++ rest → Does tells deed outcome mine old mid
+  -- the plans of what an I/O action asked, which are none, and of what follows
+  plans-after : (io_action : IoAction) (outcome : Outcome io_action) (entries mine rest : List Entry) (later : List Plan) (old mid : Outside) → entries ≡ mine ++ rest → Does tells io_action outcome mine old mid
       → plans_of rest ++ later ≡ plans_of entries ++ later
-  plans-behind deed outcome entries mine rest later old mid parts did =
+  plans-after io_action outcome entries mine rest later old mid parts did =
       sym (ap (λ (es : List Entry). plans_of es ++ later) parts ∙ ap (λ (plans : List Plan). plans ++ later) (plans-joined mine rest)
-      ∙ ap (λ (plans : List Plan). (plans ++ plans_of rest) ++ later) (pass-plans mine (deed-asks tells deed outcome mine old mid did)))
+      ∙ ap (λ (plans : List Plan). (plans ++ plans_of rest) ++ later) (pass-plans mine (action-asks tells io_action outcome mine old mid did)))
 
-  -- whatever the fetches behind it come to
+  -- whatever the fetches after it come to
   pub followed-by : (c : Course) (entries : List Entry) (old new : Outside) (end : Option End) → Follows tells c entries old new end → (pending : List Plan) → AsPlanned pending c
       → (later : List Plan) (spare : Fetched) → IsLast later spare end → AreFetched later spare new.remote last
       → (coming : Fetched) × FollowsBy tells c entries coming spare old new end × AreFetched (pending ++ (plans_of entries ++ later)) coming old.remote last
@@ -159,29 +159,29 @@ module _ (tells : Type 0) (last : Sees) where
       ap (λ (c : Command). planned_by c e.reply ++ (plans_of entries ++ later)) (sym f.0) ∙ sym (append_assoc (planned_by e.command e.reply) (plans_of entries) later) in
       (rest.0, (f.0, rest.1), subst (λ (ps : List Plan). AreFetched ps rest.0 old.remote last) plans rest.2)
   followed-by (asks command next) entries old new end f (plan ∷ more) so later spare ends are = left (asks command next) so.1 entries plan more later spare old new end so.0 f ends are
-  followed-by (does deed next) entries old new end f [] so later spare ends are =
+  followed-by (does io_action next) entries old new end f [] so later spare ends are =
       let rest = followed-by (next f.0) f.2 f.3 new end f.6 [] (so.1 f.0) later spare ends are in
-      let plans = plans-behind deed f.0 entries f.1 f.2 later old f.3 f.4 f.5 in (
+      let plans = plans-after io_action f.0 entries f.1 f.2 later old f.3 f.4 f.5 in (
         rest.0,
-        (f.0, f.1, f.2, f.3, f.4, f.5, rest.0, none-used deed f.0 rest.0 so.0, rest.1),
+        (f.0, f.1, f.2, f.3, f.4, f.5, rest.0, none-used io_action f.0 rest.0 so.0, rest.1),
         subst (λ (ps : List Plan). AreFetched ps rest.0 old.remote last) plans
-            (fetched-before (plans_of f.2 ++ later) rest.0 old.remote f.3.remote last ((deed-changes tells deed f.0 f.1 old f.3 f.5).still so.0) rest.2),
+            (fetched-before (plans_of f.2 ++ later) rest.0 old.remote f.3.remote last ((action-changes tells io_action f.0 f.1 old f.3 f.5).still so.0) rest.2),
       )
-  followed-by (does deed next) entries old new end f (plan ∷ more) so later spare ends are =
+  followed-by (does io_action next) entries old new end f (plan ∷ more) so later spare ends are =
       let rest = followed-by (next f.0) f.2 f.3 new end f.6 more (so.1 f.0) later spare ends are in
-      let here = made deed f.0 plan so.0 f.1 old f.3 f.5 (more ++ (plans_of f.2 ++ later)) rest.0 rest.2 in
-      let plans = plans-behind deed f.0 entries f.1 f.2 later old f.3 f.4 f.5 in (
+      let here = made io_action f.0 plan so.0 f.1 old f.3 f.5 (more ++ (plans_of f.2 ++ later)) rest.0 rest.2 in
+      let plans = plans-after io_action f.0 entries f.1 f.2 later old f.3 f.4 f.5 in (
         here.0,
         (f.0, f.1, f.2, f.3, f.4, f.5, rest.0, here.1, rest.1),
         subst (λ (ps : List Plan). AreFetched ((plan ∷ more) ++ ps) here.0 old.remote last) plans here.2,
       )
-  followed-by (says said manner) entries old new end f [] so later spare ends are = (
+  followed-by (says said mode) entries old new end f [] so later spare ends are = (
     spare,
     (f.0, f.1, refl),
     subst (λ (ps : List Plan). AreFetched (ps ++ later) spare old.remote last) (sym (ap plans_of f.0))
-        (fetched-before later spare old.remote new.remote last (says-still (answer_of said manner) (memory_answer manner.head_only) (end_of manner) old new end f.1) are),
+        (fetched-before later spare old.remote new.remote last (says-still (answer_of said mode) (memory_answer mode.head_only) (end_of mode) old new end f.1) are),
   )
-  followed-by (says said manner) entries old new end f (plan ∷ more) so later spare ends are = left (says said manner) so.1 entries plan more later spare old new end so.0 f ends are
+  followed-by (says said mode) entries old new end f (plan ∷ more) so later spare ends are = left (says said mode) so.1 entries plan more later spare old new end so.0 f ends are
   followed-by (stops next) entries old new end f [] so later spare ends are = (
     spare,
     (f.0, f.1, f.2, refl),

@@ -16,12 +16,12 @@ use Rattle.remote_fetch.proofs.Causes.{fetch-cause}
 use Rattle.remote_fetch.proofs.Fetches.{fetch-short}
 use Rattle.course_laws.specs.Landed.{GoesOn}
 
-pub behind-none : {X : Type 0} (told : Option (List X)) → behind told [] ≡ told
-behind-none None = refl
-behind-none (Some items) = ap Some (append-nil items)
+pub after-none : {X : Type 0} (told : Option (List X)) → behind told [] ≡ told
+after-none None = refl
+after-none (Some items) = ap Some (append-nil items)
 
 pub goes-on : (o : Sees) → GoesOn o o
-goes-on o = record { faults = omega arith; made = ([], sym (behind-none o.made)) }
+goes-on o = record { faults = omega arith; made = ([], sym (after-none o.made)) }
 
 pub goes-then : (a b c : Sees) → GoesOn a b → GoesOn b c → GoesOn a c
 goes-then a b c first then =

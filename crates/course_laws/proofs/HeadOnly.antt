@@ -8,10 +8,10 @@ use Rattle.repo_routes.specs.Judge.{intent_of, judge, outcome_of}
 use Rattle.repo_routes.specs.declared.refusal.Refusal.{Refusal}
 use Rattle.course_laws.specs.Duties.{duty_of}
 
-outcome-head : (head : Head) (outcome : Result Intent Refusal) (last : Bool) → (duty_of (outcome_of head outcome) last).manner.head_only ≡ is_head head
+outcome-head : (head : Head) (outcome : Result Intent Refusal) (last : Bool) → (duty_of (outcome_of head outcome) last).mode.head_only ≡ is_head head
 outcome-head head (Ok intent) last = refl
 outcome-head head (Err cause) last = refl
 
-pub judged-head : (settings : Settings) (head : Head) (last : Bool) → (duty_of (judge settings head) last).manner.head_only ≡ is_head head
+pub judged-head : (settings : Settings) (head : Head) (last : Bool) → (duty_of (judge settings head) last).mode.head_only ≡ is_head head
 unfolding judge
 judged-head settings head last = outcome-head head (intent_of settings head) last

@@ -16,16 +16,16 @@ use Rattle.repo_model.specs.Settings.{Settings}
 use Rattle.repo_routes.specs.Intent.{Judged}
 use Rattle.repo_routes.specs.Judge.{judge}
 use Rattle.repo_routes.specs.declared.judging.Refused.{Refused}
-use Rattle.repo_course.specs.Course.{Close, Course, Deed, Fetch, Outcome, asks, does, says, stops, fetch, store_fetched}
-use Rattle.repo_course.specs.declared.manner.Manner.{Manner}
+use Rattle.repo_course.specs.Course.{Close, Course, IoAction, Fetch, Outcome, asks, does, says, stops, fetch, store_fetched}
+use Rattle.repo_course.specs.declared.mode.ResponseMode.{ResponseMode}
 use Rattle.repo_course.specs.declared.outcomes.End.{End}
 use Rattle.repo_course.specs.Serving.{Does, Fetches, Follows, Opens, clean, torn, failed, refused, unread_head, starved, served, Outside, ServesStream, RequestTurn}
 use Rattle.course_laws.specs.Duties.{Keeps, MayAsk, MayDo, Stand, duty_of, landing_by, left_by, stand_after, stand_done}
 use Rattle.course_laws.specs.Landed.{AllLandWhatCame, GoesOn, IsFileOf, LandsWhatCame, WasFetched}
 use Rattle.course_laws.proofs.Kept.{duty_at, opens-keeps}
-use Rattle.course_laws.proofs.Passes.{ArePass, IsPassCommand, deed-asks}
+use Rattle.course_laws.proofs.Passes.{ArePass, IsPassCommand, action-asks}
 use Rattle.course_laws.proofs.Alls.{all-joined}
-use Rattle.course_laws.proofs.Remotes.{deed-goes, follows-go, goes-on, goes-then, opens-still, serves-go, still-goes, turn-goes}
+use Rattle.course_laws.proofs.Remotes.{action-goes, follows-go, goes-on, goes-then, opens-still, serves-go, still-goes, turn-goes}
 
 no-file : (outcome : Came Content) → IsFileOf outcome None
 no-file (came.Got (content.File checked)) = tt
@@ -64,10 +64,10 @@ module _ (first : Sees) where
       pick (Some o) is = (o, s.kept, hand plan o may.1 is, subst (λ (c : Fetch). landing_by c s.kept ≡ Some outcome) is may.3)
   asked-lands now command s may hand = tt
 
-  module _ (tells : Type 0) (by_text : List ℕ → Option Close) (manner : Manner) where
-    deed-hand : (deed : Deed) (outcome : Outcome deed) (mine : List Entry) (s : Stand) (old new : Outside) → MayDo manner deed s → Does tells deed outcome mine old new
-        → GoesOn first old.remote → Hand old.remote s → Hand new.remote (stand_done by_text deed outcome s)
-    deed-hand (fetch plan) outcome mine s old new may did since hand = λ p o is came_is.
+  module _ (tells : Type 0) (by_text : List ℕ → Option Close) (mode : ResponseMode) where
+    action-hand : (io_action : IoAction) (outcome : Outcome io_action) (mine : List Entry) (s : Stand) (old new : Outside) → MayDo mode io_action s → Does tells io_action outcome mine old new
+        → GoesOn first old.remote → Hand old.remote s → Hand new.remote (stand_done by_text io_action outcome s)
+    action-hand (fetch plan) outcome mine s old new may did since hand = λ p o is came_is.
         let same : plan ≡ p = let both : Some plan ≡ Some p = sym may.1.1 ∙ is in cc in
         let made : Fetches plan (Some o) old new = subst (λ (c : Fetch). Fetches plan c old new) came_is did.1 in
         subst (λ (x : Plan). WasFetched x o None first new.remote) same
@@ -79,8 +79,8 @@ module _ (first : Sees) where
           later = subst (GoesOn made.0) (sym (ap (λ (x : Outside). x.remote) made.2)) (goes-on made.0);
           file = no-file o;
         })
-    deed-hand (store_fetched n checked) (Ok blob) mine s old new may did since hand = λ p o is came_is.
-        let w = fetched-later p o s.kept old.remote new.remote (deed-goes tells (store_fetched n checked) (Ok blob) mine old new did) (hand p o is came_is) in
+    action-hand (store_fetched n checked) (Ok blob) mine s old new may did since hand = λ p o is came_is.
+        let w = fetched-later p o s.kept old.remote new.remote (action-goes tells (store_fetched n checked) (Ok blob) mine old new did) (hand p o is came_is) in
         let same : came.Got (content.File checked) ≡ o = let both : Some (came.Got (content.File checked)) ≡ Some o = sym may.1.2 ∙ came_is in cc in
         record {
           before = w.before;
@@ -90,10 +90,10 @@ module _ (first : Sees) where
           later = w.later;
           file = subst (λ (x : Came Content). IsFileOf x (Some blob)) same (did.1.2, did.1.3);
         }
-    deed-hand deed outcome mine s old new may did since hand = λ p o is came_is.
-        fetched-later p o s.kept old.remote new.remote (deed-goes tells deed outcome mine old new did) (hand p o is came_is)
+    action-hand io_action outcome mine s old new may did since hand = λ p o is came_is.
+        fetched-later p o s.kept old.remote new.remote (action-goes tells io_action outcome mine old new did) (hand p o is came_is)
 
-    follows-lands : (c : Course) (n : ℕ) (s : Stand) → Keeps by_text manner c n s → (entries : List Entry) (old new : Outside) (end : Option End) → GoesOn first old.remote
+    follows-lands : (c : Course) (n : ℕ) (s : Stand) → Keeps by_text mode c n s → (entries : List Entry) (old new : Outside) (end : Option End) → GoesOn first old.remote
         → Hand old.remote s → Follows tells c entries old new end → AllLandWhatCame first new.remote entries
     follows-lands (asks command next) zero s k [] old new end since hand f = absurd f
     follows-lands (asks command next) zero s k (e ∷ entries) old new end since hand f = absurd k
@@ -103,12 +103,12 @@ module _ (first : Sees) where
           (subst (λ (c : Command). LandsWhatCame first old.remote c) (sym f.0) (asked-lands old.remote command s k.0 hand)),
       follows-lands (next e.reply) n (stand_after command e.reply s) (k.1 e.reply) entries old new end since (reply-hand old.remote command e.reply s hand) f.1,
     )
-    follows-lands (does deed next) n s k entries old new end since hand f =
-        let goes = deed-goes tells deed f.0 f.1 old f.3 f.5 in
-        let rest = follows-lands (next f.0) (left_by deed n) (stand_done by_text deed f.0 s) (k.2 f.0) f.2 f.3 new end (goes-then first old.remote f.3.remote since goes)
-        (deed-hand deed f.0 f.1 s old f.3 k.0 f.5 since hand) f.6 in
+    follows-lands (does io_action next) n s k entries old new end since hand f =
+        let goes = action-goes tells io_action f.0 f.1 old f.3 f.5 in
+        let rest = follows-lands (next f.0) (left_by io_action n) (stand_done by_text io_action f.0 s) (k.2 f.0) f.2 f.3 new end (goes-then first old.remote f.3.remote since goes)
+        (action-hand io_action f.0 f.1 s old f.3 k.0 f.5 since hand) f.6 in
         subst (AllLandWhatCame first new.remote) (sym f.4)
-        (all-joined (λ (e : Entry). LandsWhatCame first new.remote e.command) f.1 f.2 (all-pass f.1 (deed-asks tells deed f.0 f.1 old f.3 f.5)) rest)
+        (all-joined (λ (e : Entry). LandsWhatCame first new.remote e.command) f.1 f.2 (all-pass f.1 (action-asks tells io_action f.0 f.1 old f.3 f.5)) rest)
       where
         all-pass : (mine : List Entry) → ArePass mine → AllLandWhatCame first new.remote mine
         all-pass [] are = tt
@@ -134,7 +134,7 @@ module _ (first : Sees) where
     pub turn-lands : (last : Bool) (entries : List Entry) (old new : Outside) (end : Option End) → GoesOn first old.remote → RequestTurn settings tells last entries old new end
         → AllLandWhatCame first new.remote entries
     turn-lands last entries old new end since (c, mid, o, f) =
-        follows-lands tells (duty_at o).by_text (duty_at o).manner c (duty_at o).most (duty_at o).stand (opens-keeps settings last old mid c o) entries mid new end
+        follows-lands tells (duty_at o).by_text (duty_at o).mode c (duty_at o).most (duty_at o).stand (opens-keeps settings last old mid c o) entries mid new end
         (goes-then first old.remote mid.remote since (still-goes old mid (opens-still settings last old mid c o)))
         (λ plan outcome is came_is. absurd (none-some outcome (sym (bare settings last old mid c o) ∙ came_is))) f
 

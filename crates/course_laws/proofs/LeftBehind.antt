@@ -12,10 +12,10 @@ use Rattle.repo_course.specs.Course.{Close, Course, asks, does, says, stops}
 use Rattle.repo_course.specs.declared.outcomes.End.{End}
 use Rattle.repo_course.specs.Serving.{Follows, Opens, served, Outside, ServesStream, RequestTurn}
 use Rattle.course_laws.specs.Duties.{HoldsNothing, Keeps, MayAsk, Stand, duty_of, left_by, stand_after, stand_done}
-use Rattle.repo_course.specs.declared.manner.Manner.{Manner}
+use Rattle.repo_course.specs.declared.mode.ResponseMode.{ResponseMode}
 use Rattle.course_laws.specs.LeftBehind.{IsDrawn, LeavesNothing, NumbersAreBelow}
 use Rattle.course_laws.proofs.Kept.{duty_at, opens-keeps}
-use Rattle.course_laws.proofs.Passes.{deed-asks, entries-hold}
+use Rattle.course_laws.proofs.Passes.{action-asks, entries-hold}
 use Rattle.course_laws.proofs.PassesPlayed.{entries-find}
 use Rattle.course_laws.proofs.Yards.{Holding, OwnDraft, OwnLease, step}
 use Rattle.course_laws.proofs.Alls.{all-joined}
@@ -48,7 +48,7 @@ still_drawn old new left drawn = record {
 nothing-held : (y : Yard) → Holding y None None y
 nothing-held y = record { drafts = λ drawn. refl; leases = λ drawn. refl; next_draft = omega arith; next_lease = omega arith }
 
--- what is left behind at the end of entries of which each finds its draft
+-- what is left after at the end of entries of which each finds its draft
 pub record Leaves (settings : Settings) (before : Yard) (entries : List Entry) (st : State) : Type 0 where
   pub nothing : IsDrawn before → LeavesNothing before (end_of settings st entries).yard
   pub found : AllByRecursion (λ (e : Entry). e.reply ≢ no_draft) entries
@@ -63,7 +63,7 @@ legal_cut settings x [] ys legal = (tt, legal)
 legal_cut settings x (e ∷ es) ys legal = let rest = legal_cut settings (after settings x e) es ys legal.1 in ((legal.0, rest.0), rest.1)
 
 module _ (tells : Type 0) (settings : Settings) where
-  module _ (before : Yard) (by_text : List ℕ → Option Close) (manner : Manner) where
+  module _ (before : Yard) (by_text : List ℕ → Option Close) (mode : ResponseMode) where
     ended : (s : Stand) (entries : List Entry) (st : State) → HoldsNothing s → Holding before s.draft s.lease st.yard → entries ≡ [] → Leaves settings before entries st
     ended s entries st none h is =
         let drafts : OwnDraft before None st.yard.drafts = subst (λ d. OwnDraft before d st.yard.drafts) none.0 h.drafts in
@@ -74,7 +74,7 @@ module _ (tells : Type 0) (settings : Settings) where
           found = tt;
         })
 
-    follows_leaves : (c : Course) (n : ℕ) (s : Stand) → Keeps by_text manner c n s → (entries : List Entry) (st : State) → Legal settings st entries
+    follows_leaves : (c : Course) (n : ℕ) (s : Stand) → Keeps by_text mode c n s → (entries : List Entry) (st : State) → Legal settings st entries
         → Holding before s.draft s.lease st.yard → (old new : Outside) (end : Option End) → Follows tells c entries old new end → Leaves settings before entries st
     follows_leaves (asks command next) zero s k [] st legal h old new end f = absurd f
     follows_leaves (asks command next) zero s k (e ∷ entries) st legal h old new end f = absurd k
@@ -84,11 +84,11 @@ module _ (tells : Type 0) (settings : Settings) where
         let held = subst (λ c. Holding before (stand_after c e.reply s).draft (stand_after c e.reply s).lease (after settings st e).yard) f.0 now.0 in
         let rest = follows_leaves (next e.reply) n (stand_after command e.reply s) (k.1 e.reply) entries (after settings st e) legal.1 held old new end f.1 in
         record { nothing = rest.nothing; found = (now.1, rest.found) }
-    follows_leaves (does deed next) n s k entries st legal h old new end f =
+    follows_leaves (does io_action next) n s k entries st legal h old new end f =
         let cut = legal_cut settings st f.1 f.2 (subst (λ (es : List Entry). Legal settings st es) f.4 legal) in
-        let asked = deed-asks tells deed f.0 f.1 old f.3 f.5 in
+        let asked = action-asks tells io_action f.0 f.1 old f.3 f.5 in
         let held = entries-hold before s.draft s.lease settings f.1 st asked h in
-        let rest = follows_leaves (next f.0) (left_by deed n) (stand_done by_text deed f.0 s) (k.2 f.0) f.2 (end_of settings st f.1) cut.1 held f.3 new end f.6 in
+        let rest = follows_leaves (next f.0) (left_by io_action n) (stand_done by_text io_action f.0 s) (k.2 f.0) f.2 (end_of settings st f.1) cut.1 held f.3 new end f.6 in
         subst (λ (es : List Entry). Leaves settings before es st) (sym f.4)
         (record {
           nothing = λ drawn. subst (λ (x : State). LeavesNothing before x.yard) (sym (end_append settings st f.1 f.2)) (rest.nothing drawn);
@@ -101,7 +101,7 @@ module _ (tells : Type 0) (settings : Settings) where
       → RequestTurn settings tells last entries old new end → Leaves settings st.yard entries st
   turn_leaves last entries st legal old new end t =
       let duty = duty_at t.2 in
-      follows_leaves st.yard duty.by_text duty.manner t.0 duty.most duty.stand (opens-keeps settings last old t.1 t.0 t.2) entries st legal
+      follows_leaves st.yard duty.by_text duty.mode t.0 duty.most duty.stand (opens-keeps settings last old t.1 t.0 t.2) entries st legal
       (holds t.2) t.1 new end t.3
     where
       judged-holds : (judged : Result Judged Refused) → Holding st.yard (duty_of judged last).stand.draft (duty_of judged last).stand.lease st.yard

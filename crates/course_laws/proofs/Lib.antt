@@ -14,7 +14,7 @@ pub mod Takings
 pub mod Rising
 pub mod Fetching
 pub mod BodyBytes
-pub mod Deeds
+pub mod IoActions
 pub mod Counts
 pub mod Told
 pub mod Remotes

@@ -26,8 +26,8 @@ use Rattle.course_laws.specs.Duties.{landing_of}
 use Rattle.course_laws.specs.Landed.{AllLandWhatCame, FileWasFetched, HasOrigin, LandsWhatCame, WasFetched}
 use Rattle.course_laws.proofs.Rising.{rose-before}
 
-rose-behind : (before after later : ℕ) → Rose before after → after ≤ later → Rose before later
-rose-behind before after later rose le = (omega arith, omega arith)
+rose-after : (before after later : ℕ) → Rose before after → after ≤ later → Rose before later
+rose-after before after later rose le = (omega arith, omega arith)
 
 module _ (first now : Sees) where
   -- ---- a fault
@@ -41,7 +41,7 @@ module _ (first now : Sees) where
   fault-rose plan o stored w is =
       let rose : Rose w.before.faults w.behind_it.faults =
       subst (λ (x : Came Content). HasFetchCause x w.before.faults w.behind_it.faults) is (fetch-cause plan o w.before w.behind_it w.fetched) in
-      rose-behind first.faults w.behind_it.faults now.faults (rose-before first.faults w.before.faults w.behind_it.faults w.since.faults rose) w.later.faults
+      rose-after first.faults w.behind_it.faults now.faults (rose-before first.faults w.before.faults w.behind_it.faults w.since.faults rose) w.later.faults
 
   pub faults-rose : (entries : List Entry) → AllLandWhatCame first now entries
       → AnyByRecursion (λ (e : Entry). (plan : Plan) × (e.command ≡ land plan came.Fault)) entries → Rose first.faults now.faults

@@ -13,7 +13,7 @@ use Rattle.repo_model.specs.Settings.{Settings}
 use Rattle.repo_model.specs.State.{State, Yard, hosted_of}
 use Rattle.repo_model.specs.Turn.{turn, unlent, unlist_of}
 use Rattle.repo_course.specs.Cleaning.{Passes, not_unlisted, not_collected, removing, Store, Unlists, commands_in}
-use Rattle.repo_course.specs.Course.{Deed, Outcome, Pass, clean_all}
+use Rattle.repo_course.specs.Course.{IoAction, Outcome, Pass, clean_all}
 use Rattle.repo_course.specs.Serving.{Does, Outside}
 use Rattle.repo_course.specs.declared.outcomes.CleanFault.{CleanFault}
 use Rattle.course_laws.specs.AsPlayed.{RowsTold}
@@ -181,6 +181,6 @@ entries-clock settings [] s told = told
 entries-clock settings (e ∷ entries) s told = entries-clock settings entries (after settings s e) (clock-stays settings s e told)
 
 -- only a pass asks commands
-pub deed-asks : (tells : Type 0) (deed : Deed) (outcome : Outcome deed) (mine : List Entry) (old new : Outside) → Does tells deed outcome mine old new → ArePass mine
-deed-asks tells (clean_all repos) pass mine old new did = passes-ask repos mine _ did.0 pass did.1
-deed-asks tells _ outcome mine old new did = subst ArePass (sym did.0) tt
+pub action-asks : (tells : Type 0) (io_action : IoAction) (outcome : Outcome io_action) (mine : List Entry) (old new : Outside) → Does tells io_action outcome mine old new → ArePass mine
+action-asks tells (clean_all repos) pass mine old new did = passes-ask repos mine _ did.0 pass did.1
+action-asks tells _ outcome mine old new did = subst ArePass (sym did.0) tt

@@ -80,7 +80,7 @@ module _ (settings : Settings) where
       none stood (inr (inl says)) is = absurd (cc)
       none stood (inr (inr says)) is = not-risen s.faults e.faults says.1 (omega (arith, stood)) calm.1
 
-  -- and none that memory was wanted: they are the entries that are played
+  -- and none that memory ran out: they are the entries that are played
   entries-due : (entries : List Entry) (s : State) → Legal settings s entries → Calm s.faults (end_of settings s entries).faults → IsSome s.clock
       → AllByRecursion (λ (e : Entry). e.reply ≢ no_memory) entries → entries ≡ due_entries settings s (commands_in entries)
   entries-due [] s legal calm told some = refl
@@ -137,8 +137,8 @@ sum-none : {X : Type 0} (f : X → ℕ) → ((x : X) → f x ≡ 0) → (xs : Li
 sum-none f none [] = refl
 sum-none f none (x ∷ xs) = let here = sum_by-cons f x xs in let zero-here = none x in let rest = sum-none f none xs in omega (arith, here, zero-here, rest)
 
-sum-behind : (f : Reply → ℕ) (counts : List ℕ) (last : Reply) → sum_by f (map unlisted counts ++ last ∷ []) ≡ sum_by (λ n. f (unlisted n)) counts + f last
-sum-behind f counts last =
+sum-after : (f : Reply → ℕ) (counts : List ℕ) (last : Reply) → sum_by f (map unlisted counts ++ last ∷ []) ≡ sum_by (λ n. f (unlisted n)) counts + f last
+sum-after f counts last =
     let all = sum_by-append f (map unlisted counts) (last ∷ []) in
     let one = sum_by-cons f last [] in
     let same = sum-under f unlisted counts in
@@ -169,7 +169,7 @@ module _ (settings : Settings) (repos : List (List ℕ)) (entries first : List E
   pass-is-played s legal calm told = entries-due settings entries s legal calm told some-memory ∙ ap (due_entries settings s) pass-commands
 
   summed : (f : Reply → ℕ) → sum_by (λ (e : Entry). f e.reply) entries ≡ sum_by (λ n. f (unlisted n)) u.0 + f (collected c.1.0 blobs)
-  summed f = sum-under f (λ (e : Entry). e.reply) entries ∙ ap (sum_by f) pass-replies ∙ sum-behind f u.0 (collected c.1.0 blobs)
+  summed f = sum-under f (λ (e : Entry). e.reply) entries ∙ ap (sum_by f) pass-replies ∙ sum-after f u.0 (collected c.1.0 blobs)
 
   pass-done : cleaned count (Ok (length blobs)) ≡ Ok (done_by entries)
   pass-done =

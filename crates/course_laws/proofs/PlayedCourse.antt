@@ -9,27 +9,27 @@ use Rattle.repo_model.specs.History.{Entry, Legal, after, due, wants_memory, fai
 use Rattle.repo_model.specs.Reply.{Reply, file, no_memory, takes_memory}
 use Rattle.repo_model.specs.Settings.{Settings}
 use Rattle.repo_model.specs.State.{State}
-use Rattle.repo_course.specs.Course.{Close, Course, Deed, Fetch, Outcome, asks, does, says, stops, speaks}
-use Rattle.repo_course.specs.declared.manner.Manner.{Manner}
+use Rattle.repo_course.specs.Course.{Close, Course, IoAction, Fetch, Outcome, asks, does, says, stops, speaks}
+use Rattle.repo_course.specs.declared.mode.ResponseMode.{ResponseMode}
 use Rattle.repo_course.specs.declared.outcomes.End.{End}
-use Rattle.repo_course.specs.declared.said.Said.TheVariants.{NoMemory}
+use Rattle.repo_course.specs.declared.response.Response.TheVariants.{NoMemory}
 use Rattle.repo_course.specs.Serving.{Outside}
 use Rattle.course_laws.specs.AsPlayed.{RowsTold}
 use Rattle.course_laws.specs.Duties.{Keeps, MayAsk, MayDo, Stand, landing_by, stand_after, stand_done}
 use Rattle.course_laws.specs.Faultless.{due_entry, play, wrote, done_at}
 use Rattle.course_laws.proofs.LeftBehind.{end_append, legal_cut}
-use Rattle.course_laws.proofs.Passes.{entries-clock, entries-told, deed-asks}
-use Rattle.course_laws.proofs.Counts.{deed-grew, follows-grew}
+use Rattle.course_laws.proofs.Passes.{entries-clock, entries-told, action-asks}
+use Rattle.course_laws.proofs.Counts.{action-grew, follows-grew}
 use Rattle.course_laws.proofs.Early.{ComesTo, Ready, ends-due, memory-due, outcome-before, outcome-so, own-head, says-memory, wrote-outcome}
 use Rattle.course_laws.proofs.Fetched.{Fetched, FollowsBy, plain}
 use Rattle.course_laws.proofs.PlayedActs.{Plays, memory-play, says-play, sink-play, source-play, stops-play, torn-play}
 use Rattle.course_laws.proofs.Unsent.{IsUnsent, MayStarve, none-unsent, reply-may, reply-unsent}
 use Rattle.course_laws.proofs.Told.{CommandTold, LandingTold, ReplyTold, after-told, clock-stays, due-is, faults-are, faults-grow, moment-is, reply-told}
-use Rattle.course_laws.specs.Deeds.{due_behind, left_by}
+use Rattle.course_laws.specs.IoActions.{due_behind, left_by}
 use Rattle.course_laws.specs.Scenes.{Scene}
 use Rattle.outside.specs.Told.{behind}
-use Rattle.repo_course.specs.Deeds.{Sequel, goes_on, by_its_text, ends_by, sequel, rests}
-use Rattle.course_laws.proofs.Deeds.{InHandTold, IsBlobTold, IsPlayed, IsUnsentBy, as_played, at, blob_fails, deed-played, is_torn, sink_fails, source_fails, wants_room}
+use Rattle.repo_course.specs.IoActions.{Sequel, goes_on, by_its_text, ends_by, sequel, rests}
+use Rattle.course_laws.proofs.IoActions.{InHandTold, IsBlobTold, IsPlayed, IsUnsentBy, as_played, at, blob_fails, action-played, is_torn, sink_fails, source_fails, wants_room}
 use Rattle.course_laws.proofs.Rising.{Calm, NoneFell, calm-first, calm-then, risen}
 
 reply-in-hand : (c : Command) (reply : Reply) (s : Stand) → ReplyTold reply → InHandTold s → InHandTold (stand_after c reply s)
@@ -52,8 +52,8 @@ unsent-by by_text (by_its_text bytes) before un = tt
 unsent-by by_text (ends_by (speaks said)) before un = tt
 unsent-by by_text (ends_by (rests end)) before un = un
 
-module _ (settings : Settings) (tells : Type 0) (witness : tells) (by_text : List ℕ → Option Close) (manner : Manner) where
-  asks-play : (command : Command) (next : Reply → Course) → ((reply : Reply) → Plays settings tells by_text manner (next reply)) → Plays settings tells by_text manner (asks command next)
+module _ (settings : Settings) (tells : Type 0) (witness : tells) (by_text : List ℕ → Option Close) (mode : ResponseMode) where
+  asks-play : (command : Command) (next : Reply → Course) → ((reply : Reply) → Plays settings tells by_text mode (next reply)) → Plays settings tells by_text mode (asks command next)
   asks-play command next ih zero s k hand [] st legal calm old new end input before coming spare ready quiet f = absurd f
   asks-play command next ih zero s k hand (e ∷ entries) st legal calm old new end input before coming spare ready quiet f = absurd k
   asks-play command next ih (suc n) s k hand [] st legal calm old new end input before coming spare ready quiet f = absurd f
@@ -83,82 +83,82 @@ module _ (settings : Settings) (tells : Type 0) (witness : tells) (by_text : Lis
             let hand1 = reply-in-hand command d.reply s (reply-told settings st ready.rows command s k.0 told) hand in
             let follows = subst (λ r. FollowsBy tells (next r) entries coming spare old new end) reply-is f.1 in
             let s1 = stand_after command d.reply s in
-            subst (λ (x : State). ComesTo spare (MayStarve manner s) before (play settings (next d.reply) (at x input coming)) old new (end_of settings st1 entries) end) state-is
-            (outcome-so (MayStarve manner s1) (MayStarve manner s) before (play settings (next d.reply) (at st1 input coming)) old new (end_of settings st1 entries) end (λ alone front may. (may.0, reply-may command d.reply s k.0 front may.1))
+            subst (λ (x : State). ComesTo spare (MayStarve mode s) before (play settings (next d.reply) (at x input coming)) old new (end_of settings st1 entries) end) state-is
+            (outcome-so (MayStarve mode s1) (MayStarve mode s) before (play settings (next d.reply) (at st1 input coming)) old new (end_of settings st1 entries) end (λ alone front may. (may.0, reply-may command d.reply s k.0 front may.1))
             (ih d.reply n s1 (k.1 d.reply) hand1 entries st1 legal.1 calm1 old new end input before coming spare ready1 quiet follows))
         | wants_memory replied can did ↦
             let due = memory-due command s k.0 (subst (λ c. IsTrue (takes_memory c)) f.0 can) in
             let follows = subst (λ r. FollowsBy tells (next r) entries coming spare old new end) replied f.1 in
             let unsent = reply-unsent command no_memory s k.0 (subst IsUnsent (sym due) tt) in
-            inr (says-memory (MayStarve manner s) manner.head_only (refl, (unsent, inl refl)) old new end before _
-            (ends-due tells by_text manner (next no_memory) n (stand_after command no_memory s) (speaks NoMemory) (k.1 no_memory) due entries old new end (plain tells (next no_memory) entries coming spare old new end follows)).0 ready.output_is)
+            inr (says-memory (MayStarve mode s) mode.head_only (refl, (unsent, inl refl)) old new end before _
+            (ends-due tells by_text mode (next no_memory) n (stand_after command no_memory s) (speaks NoMemory) (k.1 no_memory) due entries old new end (plain tells (next no_memory) entries coming spare old new end follows)).0 ready.output_is)
         | failed replied can rose ↦ risen st.faults e.faults (end_of settings st1 entries).faults rose (omega arith) calm
       ]
 
-  -- behind a deed the course is followed as it is played, by what that came to beside what is played
-  played-on : (deed : Deed) (next : Outcome deed → Course) (outcome : Outcome deed) → Plays settings tells by_text manner (next outcome) → (n : ℕ) (s : Stand) → MayDo manner deed s
-      → Keeps by_text manner (next outcome) n (stand_done by_text deed outcome s) → (mine later : List Entry) (st : State) → RowsTold (end_of settings st mine) → IsSome (end_of settings st mine).clock
+  -- after an I/O action the course is followed as it is played, by what that came to beside what is played
+  played-on : (io_action : IoAction) (next : Outcome io_action → Course) (outcome : Outcome io_action) → Plays settings tells by_text mode (next outcome) → (n : ℕ) (s : Stand) → MayDo mode io_action s
+      → Keeps by_text mode (next outcome) n (stand_done by_text io_action outcome s) → (mine later : List Entry) (st : State) → RowsTold (end_of settings st mine) → IsSome (end_of settings st mine).clock
       → Legal settings (end_of settings st mine) later → Calm (end_of settings st mine).faults (end_of settings (end_of settings st mine) later).faults
       → (old mid new : Outside) (end : Option End) (input before : List ℕ) (coming unused spare : Fetched) → old.output ≡ Some before → Calm old.blob_faults new.blob_faults → NoneFell old mid → NoneFell mid new
-      → FollowsBy tells (next outcome) later unused spare mid new end → IsPlayed settings deed outcome mine s (at st input coming) unused old mid
-      → ComesTo spare (MayStarve manner s) before (play settings (does deed next) (at st input coming)) old new (end_of settings (end_of settings st mine) later) end
-  played-on deed next outcome ih n s may k mine later st rows clock legal calm old mid new end input before coming unused spare out quiet first grows follows (as_played written left is input_is output told fronts) =
-      let s1 = stand_done by_text deed outcome s in
+      → FollowsBy tells (next outcome) later unused spare mid new end → IsPlayed settings io_action outcome mine s (at st input coming) unused old mid
+      → ComesTo spare (MayStarve mode s) before (play settings (does io_action next) (at st input coming)) old new (end_of settings (end_of settings st mine) later) end
+  played-on io_action next outcome ih n s may k mine later st rows clock legal calm old mid new end input before coming unused spare out quiet first grows follows (as_played written left is input_is output told fronts) =
+      let s1 = stand_done by_text io_action outcome s in
       let there = end_of settings st mine in
       let last = end_of settings there later in
       let ready : Ready mid there left (before ++ written) = record { input_is = input_is; output_is = output ∙ ap (λ o. behind o written) out; rows = rows; clock = clock } in
       let played = ih n s1 k told later there legal calm mid new end left (before ++ written) unused spare ready
       (calm-then old.blob_faults mid.blob_faults new.blob_faults first.blobs grows.blobs quiet) follows in
-      subst (λ (d : Outcome deed × List ℕ × Scene). ComesTo spare (MayStarve manner s) before (wrote d.1 (play settings (next d.0) d.2)) old new last end) (sym is)
-      (outcome-before (MayStarve manner s) before (wrote written (play settings (next outcome) (at there left unused))) old mid new last end first
-      (wrote-outcome (MayStarve manner s1) (MayStarve manner s) before written (play settings (next outcome) (at there left unused)) mid new last end
-      (λ alone front stood. (stood.0, (none-unsent s.due may.0, fronts (unsent-by by_text (sequel deed outcome) s.due stood.1.0) front stood.1.1))) played))
-  played-on deed next outcome ih n s may k mine later st rows clock legal calm old mid new end input before coming unused spare out quiet first grows follows (is_torn left is torn kept) =
+      subst (λ (d : Outcome io_action × List ℕ × Scene). ComesTo spare (MayStarve mode s) before (wrote d.1 (play settings (next d.0) d.2)) old new last end) (sym is)
+      (outcome-before (MayStarve mode s) before (wrote written (play settings (next outcome) (at there left unused))) old mid new last end first
+      (wrote-outcome (MayStarve mode s1) (MayStarve mode s) before written (play settings (next outcome) (at there left unused)) mid new last end
+      (λ alone front stood. (stood.0, (none-unsent s.due may.0, fronts (unsent-by by_text (sequel io_action outcome) s.due stood.1.0) front stood.1.1))) played))
+  played-on io_action next outcome ih n s may k mine later st rows clock legal calm old mid new end input before coming unused spare out quiet first grows follows (is_torn left is torn kept) =
       let last = end_of settings (end_of settings st mine) later in
-      subst (λ (d : Outcome deed × List ℕ × Scene). ComesTo spare (MayStarve manner s) before (wrote d.1 (play settings (next d.0) d.2)) old new last end) (sym is)
-      (torn-play settings tells by_text manner (MayStarve manner s) (next outcome) n (stand_done by_text deed outcome s) k later old mid new end before out
+      subst (λ (d : Outcome io_action × List ℕ × Scene). ComesTo spare (MayStarve mode s) before (wrote d.1 (play settings (next d.0) d.2)) old new last end) (sym is)
+      (torn-play settings tells by_text mode (MayStarve mode s) (next outcome) n (stand_done by_text io_action outcome s) k later old mid new end before out
       (plain tells (next outcome) later unused spare mid new end follows) (ap (λ (x : Sequel). due_behind by_text x s.due) torn) last left spare kept)
-  played-on deed next outcome ih n s may k mine later st rows clock legal calm old mid new end input before coming unused spare out quiet first grows follows (wants_room is kept) =
-      inr (memory-play settings tells by_text manner (MayStarve manner s) (next outcome) n (stand_done by_text deed outcome s) k later old mid new end before out
+  played-on io_action next outcome ih n s may k mine later st rows clock legal calm old mid new end input before coming unused spare out quiet first grows follows (wants_room is kept) =
+      inr (memory-play settings tells by_text mode (MayStarve mode s) (next outcome) n (stand_done by_text io_action outcome s) k later old mid new end before out
       (plain tells (next outcome) later unused spare mid new end follows) (ap (λ (x : Sequel). due_behind by_text x s.due) is) (refl, (none-unsent s.due may.0, inl refl)) _ first kept)
-  played-on deed next outcome ih n s may k mine later st rows clock legal calm old mid new end input before coming unused spare out quiet first grows follows (source_fails is rose kept) =
-      inr (source-play settings tells by_text manner (MayStarve manner s) (next outcome) n (stand_done by_text deed outcome s) k later old mid new end before out
+  played-on io_action next outcome ih n s may k mine later st rows clock legal calm old mid new end input before coming unused spare out quiet first grows follows (source_fails is rose kept) =
+      inr (source-play settings tells by_text mode (MayStarve mode s) (next outcome) n (stand_done by_text io_action outcome s) k later old mid new end before out
       (plain tells (next outcome) later unused spare mid new end follows) (ap (λ (x : Sequel). due_behind by_text x s.due) is) _ rose kept)
-  played-on deed next outcome ih n s may k mine later st rows clock legal calm old mid new end input before coming unused spare out quiet first grows follows (sink_fails part more is rose parts written) =
-      let did = done_at settings deed (at st input coming) in
+  played-on io_action next outcome ih n s may k mine later st rows clock legal calm old mid new end input before coming unused spare out quiet first grows follows (sink_fails part more is rose parts written) =
+      let did = done_at settings io_action (at st input coming) in
       let after_it = (play settings (next did.0) did.2).written in
-      inr (sink-play settings tells by_text manner (MayStarve manner s) (next outcome) n (stand_done by_text deed outcome s) k later old mid new end before out
+      inr (sink-play settings tells by_text mode (MayStarve mode s) (next outcome) n (stand_done by_text io_action outcome s) k later old mid new end before out
       (plain tells (next outcome) later unused spare mid new end follows) (ap (λ (x : Sequel). due_behind by_text x s.due) is) (did.1 ++ after_it) part
       (more ++ after_it, ap (λ b. b ++ after_it) parts ∙ append_assoc part more after_it) rose written)
-  played-on deed next outcome ih n s may k mine later st rows clock legal calm old mid new end input before coming unused spare out quiet first grows follows (blob_fails rose) =
+  played-on io_action next outcome ih n s may k mine later st rows clock legal calm old mid new end input before coming unused spare out quiet first grows follows (blob_fails rose) =
       risen old.blob_faults mid.blob_faults new.blob_faults rose grows.blobs quiet
 
-  deed-play : (deed : Deed) (next : Outcome deed → Course) → ((outcome : Outcome deed) → Plays settings tells by_text manner (next outcome))
-      → Plays settings tells by_text manner (does deed next)
-  deed-play deed next ih n s k hand entries st legal calm old new end input before coming spare ready quiet f =
+  action-play : (io_action : IoAction) (next : Outcome io_action → Course) → ((outcome : Outcome io_action) → Plays settings tells by_text mode (next outcome))
+      → Plays settings tells by_text mode (does io_action next)
+  action-play io_action next ih n s k hand entries st legal calm old new end input before coming spare ready quiet f =
       let cut = legal_cut settings st f.1 f.2 (subst (λ (es : List Entry). Legal settings st es) f.4 legal) in
       let mid = end_of settings st f.1 in
       let ends : end_of settings st entries ≡ end_of settings mid f.2 = ap (λ (es : List Entry). end_of settings st es) f.4 ∙ end_append settings st f.1 f.2 in
       let all = subst (λ (x : State). Calm st.faults x.faults) ends calm in
       let up = faults-grow settings f.1 st cut.0 in
       let more = faults-grow settings f.2 mid cut.1 in
-      let asked = deed-asks tells deed f.0 f.1 old f.3 f.5 in
-      subst (λ (x : State). ComesTo spare (MayStarve manner s) before (play settings (does deed next) (at st input coming)) old new x end) (sym ends)
-      (played-on deed next f.0 (ih f.0) (left_by deed n) s k.0 (k.2 f.0) f.1 f.2 st (entries-told settings f.1 st asked ready.rows) (entries-clock settings f.1 st ready.clock) cut.1
+      let asked = action-asks tells io_action f.0 f.1 old f.3 f.5 in
+      subst (λ (x : State). ComesTo spare (MayStarve mode s) before (play settings (does io_action next) (at st input coming)) old new x end) (sym ends)
+      (played-on io_action next f.0 (ih f.0) (left_by io_action n) s k.0 (k.2 f.0) f.1 f.2 st (entries-told settings f.1 st asked ready.rows) (entries-clock settings f.1 st ready.clock) cut.1
       (calm-then st.faults mid.faults (end_of settings mid f.2).faults up more all) old f.3 new end input before coming f.6 spare ready.output_is quiet
-      (deed-grew tells deed f.0 f.1 old f.3 f.5) (follows-grew tells (next f.0) f.2 f.3 new end (plain tells (next f.0) f.2 f.6 spare f.3 new end f.8)) f.8
-      (deed-played settings tells witness manner s hand st input old f.3 ready.input_is deed f.0 f.1 k.0 cut.0
+      (action-grew tells io_action f.0 f.1 old f.3 f.5) (follows-grew tells (next f.0) f.2 f.3 new end (plain tells (next f.0) f.2 f.6 spare f.3 new end f.8)) f.8
+      (action-played settings tells witness mode s hand st input old f.3 ready.input_is io_action f.0 f.1 k.0 cut.0
       (calm-first st.faults mid.faults (end_of settings mid f.2).faults more all) ready.clock coming f.6 f.7 f.5))
 
-  pub course-play : (c : Course) → Plays settings tells by_text manner c
+  pub course-play : (c : Course) → Plays settings tells by_text mode c
   course-play (asks command next) n s k hand entries st legal calm old new end input before coming spare ready quiet f =
       asks-play command next (λ r. course-play (next r)) n s k hand entries st legal calm old new end input before coming spare ready quiet f
-  course-play (does deed next) n s k hand entries st legal calm old new end input before coming spare ready quiet f =
-      deed-play deed next (λ r. course-play (next r)) n s k hand entries st legal calm old new end input before coming spare ready quiet f
+  course-play (does io_action next) n s k hand entries st legal calm old new end input before coming spare ready quiet f =
+      action-play io_action next (λ r. course-play (next r)) n s k hand entries st legal calm old new end input before coming spare ready quiet f
   course-play (says said own) n s k hand entries st legal calm old new end input before coming spare ready quiet f =
-      let head-is : own.head_only ≡ manner.head_only = ap (λ (m : Manner). m.head_only) k.2 ∙ own-head said s.unread manner in
-      subst (λ (es : List Entry). ComesTo spare (MayStarve manner s) before (play settings (says said own) (at st input coming)) old new (end_of settings st es) end) (sym f.0)
-      (says-play settings tells by_text manner (MayStarve manner s) said own (head-is, (subst IsUnsent (sym k.1) tt, inl refl)) st old new end input before coming spare ready f.1 f.2)
+      let head-is : own.head_only ≡ mode.head_only = ap (λ (m : ResponseMode). m.head_only) k.2 ∙ own-head said s.unread mode in
+      subst (λ (es : List Entry). ComesTo spare (MayStarve mode s) before (play settings (says said own) (at st input coming)) old new (end_of settings st es) end) (sym f.0)
+      (says-play settings tells by_text mode (MayStarve mode s) said own (head-is, (subst IsUnsent (sym k.1) tt, inl refl)) st old new end input before coming spare ready f.1 f.2)
   course-play (stops next) n s k hand entries st legal calm old new end input before coming spare ready quiet f =
-      subst (λ (es : List Entry). ComesTo spare (MayStarve manner s) before (play settings (stops next) (at st input coming)) old new (end_of settings st es) end) (sym f.0)
-      (stops-play settings tells by_text manner (MayStarve manner s) next st old new end input before coming spare ready f.1 f.2 f.3)
+      subst (λ (es : List Entry). ComesTo spare (MayStarve mode s) before (play settings (stops next) (at st input coming)) old new (end_of settings st es) end) (sym f.0)
+      (stops-play settings tells by_text mode (MayStarve mode s) next st old new end input before coming spare ready f.1 f.2 f.3)

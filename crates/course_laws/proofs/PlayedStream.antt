@@ -18,7 +18,7 @@ use Rattle.repo_routes.specs.Judge.{judge}
 use Rattle.repo_routes.specs.declared.judging.Refused.{Refused}
 use Rattle.repo_course.specs.Answers.{at_end, memory_answer}
 use Rattle.repo_course.specs.Course.{Close, Course, speaks, rests, course_of, head_said}
-use Rattle.repo_course.specs.declared.manner.Manner.{Manner}
+use Rattle.repo_course.specs.declared.mode.ResponseMode.{ResponseMode}
 use Rattle.repo_course.specs.declared.outcomes.End.{End}
 use Rattle.repo_course.specs.declared.outcomes.End.TheVariants as stream
 use Rattle.repo_course.specs.Serving.{Begins, IsFrontOf, IsWhole, Opens, clean, torn, failed, refused, unread_head, starved, served, Outside, ServesStream, RequestTurn}
@@ -36,7 +36,7 @@ use Rattle.course_laws.proofs.Remotes.{opens-still}
 use Rattle.course_laws.proofs.PlayedCourse.{course-play}
 use Rattle.course_laws.proofs.Told.{faults-grow}
 use Rattle.course_laws.proofs.Unsent.{MayStarve}
-use Rattle.course_laws.proofs.Deeds.{InHandTold}
+use Rattle.course_laws.proofs.IoActions.{InHandTold}
 use Rattle.course_laws.proofs.Rising.{Calm, NoneFell, calm-first, calm-then, not-risen, rose-before, calm-of}
 
 -- an answer to this is its head alone only to HEAD
@@ -47,8 +47,8 @@ MayBeAlone f alone = alone ≡ true → AsksHead f
 abbrev AtTurn : Front → Bool → List ℕ → Type 0
 AtTurn f alone written = MayBeAlone f alone × ((written ≡ []) ⊎ (written ≡ continue_bytes))
 
-at-turn : (f : Front) (manner : Manner) → MayBeAlone f manner.head_only → (s : Stand) (alone : Bool) (written : List ℕ) → MayStarve manner s alone written → AtTurn f alone written
-at-turn f manner asks s alone written may = (λ is. asks (sym may.0 ∙ is), elim may.1.1 [ inl e ↦ inl e | inr e ↦ inr e.1 ])
+at-turn : (f : Front) (mode : ResponseMode) → MayBeAlone f mode.head_only → (s : Stand) (alone : Bool) (written : List ℕ) → MayStarve mode s alone written → AtTurn f alone written
+at-turn f mode asks s alone written may = (λ is. asks (sym may.0 ∙ is), elim may.1.1 [ inl e ↦ inl e | inr e ↦ inr e.1 ])
 
 at-once-so : (f : Front) → AtTurn f false []
 at-once-so f = (λ is. absurd (false≢true is), inl refl)
@@ -58,17 +58,17 @@ asks-head (Whole what behind) head rest comes is = ap is_head comes.0 ∙ is
 asks-head _ head rest comes is = absurd comes
 
 module _ (settings : Settings) (left : ℕ) (scene : Scene) where
-  -- the first request, and a stream behind it
+  -- the first request, and a stream after it
   abbrev First : Played (Option End)
   First = play_turn settings (left == 0) (front scene.input) scene
 
   abbrev Behind : Option End → Played End
   Behind end = then_play (play_stream settings left) end First.written First.scene
 
-  -- a front of what is behind the first request is one of the whole
-  front-behind : (none : None ≡ First.end) (written : List ℕ) → IsFrontOf written (play_stream settings left First.scene).written
+  -- a front of what is after the first request is one of the whole
+  front-after : (none : None ≡ First.end) (written : List ℕ) → IsFrontOf written (play_stream settings left First.scene).written
       → IsFrontOf (First.written ++ written) (Behind First.end).written
-  front-behind none written is-front =
+  front-after none written is-front =
       subst (λ e. IsFrontOf (First.written ++ written) (Behind e).written) none
       (is-front.0, ap (λ b. First.written ++ b) is-front.1 ∙ sym (append_assoc First.written written is-front.0))
 
@@ -81,7 +81,7 @@ module _ (settings : Settings) (left : ℕ) (scene : Scene) where
       (subst (λ b. output ≡ Some b) (append_assoc before First.written (play_stream settings left First.scene).written) out))
       (subst (λ e. end ≡ (Behind e).end) none ends)
   wrote-played none before output end (wants_memory written head_only is-front answers out ends) =
-      wants_memory (First.written ++ written) head_only (front-behind none written is-front) (inr (written, sym none, refl, answers))
+      wants_memory (First.written ++ written) head_only (front-after none written is-front) (inr (written, sym none, refl, answers))
       (subst (λ b. output ≡ Some (b ++ shown (memory_answer head_only))) (append_assoc before First.written written) out) ends
 
   wrote-upto : None ≡ First.end → (before : List ℕ) (old new : Outside) (end : End)
@@ -89,10 +89,10 @@ module _ (settings : Settings) (left : ℕ) (scene : Scene) where
   unfolding play_stream IsAnswers
   wrote-upto none before old new end (unbroken played) = unbroken (wrote-played none before new.output end played)
   wrote-upto none before old new end (broken written is-front out broke) =
-      broken (First.written ++ written) (front-behind none written is-front)
+      broken (First.written ++ written) (front-after none written is-front)
       (subst (λ b. new.output ≡ Some b) (append_assoc before First.written written) out) broke
   wrote-upto none before old new end (cut_starved written part head_only is-front answers is-part out ends rose) =
-      cut_starved (First.written ++ written) part head_only (front-behind none written is-front) (inr (written, sym none, refl, answers)) is-part
+      cut_starved (First.written ++ written) part head_only (front-after none written is-front) (inr (written, sym none, refl, answers)) is-part
       (subst (λ b. new.output ≡ Some (b ++ part)) (append_assoc before First.written written) out) ends rose
 
 -- seen from an earlier world
@@ -154,7 +154,7 @@ module _ (settings : Settings) (tells : Type 0) (witness : tells) where
         let by = followed-by tells end-seen c entries mid new end f [] (opens-plan settings last old mid c o) later spare ends are in
         (by.0, (c, mid, o, by.1), fetched-before (plans_of entries ++ later) by.0 old.remote mid.remote end-seen (opens-still settings last old mid c o) by.2)
 
-    -- behind the end nothing is fetched
+    -- after the end nothing is fetched
     serves-by : (n : ℕ) (entries : List Entry) (old new : Outside) (end : End) → ServesStream settings tells n entries old new end
         → new.remote ≡ end-seen → (coming : Fetched) × ServesBy n entries coming [] old new end × AreFetched (plans_of entries) coming old.remote end-seen
     unfolding ServesStream
@@ -177,15 +177,15 @@ module _ (settings : Settings) (tells : Type 0) (witness : tells) where
     abbrev Turned : Bool → Front → State → List ℕ → List ℕ → Outside → Outside → State → Option End → Type 0
     Turned last f st input before old new st' end = ComesTo spare (AtTurn f) before (play_turn settings last f (record { state = st; input = input; fetched = coming })) old new st' end
 
-    -- a course behind what was read, from where it stands
-    played : (front_is : Front) (duty : Duty) → MayBeAlone front_is duty.manner.head_only → (c : Course) → Fulfils duty c → InHandTold duty.stand → (entries : List Entry) (st : State) → Legal settings st entries
+    -- a course after what was read, from where it stands
+    played : (front_is : Front) (duty : Duty) → MayBeAlone front_is duty.mode.head_only → (c : Course) → Fulfils duty c → InHandTold duty.stand → (entries : List Entry) (st : State) → Legal settings st entries
         → Calm st.faults (end_of settings st entries).faults
         → (old mid new : Outside) (end : Option End) (input before : List ℕ) → Ready mid st input before → Calm mid.blob_faults new.blob_faults → NoneFell old mid
         → FollowsBy tells c entries coming spare mid new end → ComesTo spare (AtTurn front_is) before (play settings c (record { state = st; input = input; fetched = coming })) old new (end_of settings st entries) end
     played front_is duty asks c k hand entries st legal calm old mid new end input before ready quiet g f =
         outcome-before (AtTurn front_is) before _ old mid new _ end g
-        (outcome-so (MayStarve duty.manner duty.stand) (AtTurn front_is) before _ mid new _ end (at-turn front_is duty.manner asks duty.stand)
-        (course-play settings tells witness duty.by_text duty.manner c duty.most duty.stand k hand entries st legal calm mid new end input before coming spare ready quiet f))
+        (outcome-so (MayStarve duty.mode duty.stand) (AtTurn front_is) before _ mid new _ end (at-turn front_is duty.mode asks duty.stand)
+        (course-play settings tells witness duty.by_text duty.mode c duty.most duty.stand k hand entries st legal calm mid new end input before coming spare ready quiet f))
 
     -- the source alone was read
     ready-on : (old mid : Outside) (st : State) (input behind before : List ℕ) (rest : Option (List ℕ)) → Ready old st input before → mid ≡ record old { input = rest }
@@ -214,8 +214,8 @@ module _ (settings : Settings) (tells : Type 0) (witness : tells) where
     turn-play last entries st legal calm old new end input before ready quiet (c, mid, o, f) =
         opened c mid o f (opens-keeps settings last old mid c o) (opens-grew settings last old mid c o) (follows-grew tells c entries mid new end (plain tells c entries coming spare mid new end f))
       where
-        quiet-behind : (mid : Outside) → NoneFell old mid → NoneFell mid new → Calm mid.blob_faults new.blob_faults
-        quiet-behind mid g more = calm-then old.blob_faults mid.blob_faults new.blob_faults g.blobs more.blobs quiet
+        quiet-after : (mid : Outside) → NoneFell old mid → NoneFell mid new → Calm mid.blob_faults new.blob_faults
+        quiet-after mid g more = calm-then old.blob_faults mid.blob_faults new.blob_faults g.blobs more.blobs quiet
 
         comes : (head : Head) (rest : Option (List ℕ)) → Begins old.input (IsWhole head rest) → IsWhole head rest (front input)
         comes head rest begins = subst (λ (i : Option (List ℕ)). Begins i (IsWhole head rest)) ready.input_is begins
@@ -231,7 +231,7 @@ module _ (settings : Settings) (tells : Type 0) (witness : tells) where
             (subst (λ p. ComesTo spare (AtTurn what) before p old new (end_of settings st entries) end) (sym (plays (record { state = st; input = input; fetched = coming })))
             (subst (λ d. Plays-so what d input before old new st (end_of settings st entries) end) is
             (played what (to_end due (at_end false)) (at-once-so what).0 c k (tt, tt, tt) entries st legal calm old mid new end input before (ready-on old mid st input input before old.input ready still ready.input_is)
-            (quiet-behind mid g more) g f)))
+            (quiet-after mid g more) g f)))
 
         opened : (c : Course) (mid : Outside) (o : Opens settings last old mid c) → FollowsBy tells c entries coming spare mid new end → Fulfils (duty_at o) c
             → NoneFell old mid → NoneFell mid new → Turned last (front input) st input before old new (end_of settings st entries) end
@@ -257,7 +257,7 @@ module _ (settings : Settings) (tells : Type 0) (witness : tells) where
             (λ behind there.
             subst (λ d. Plays-so (front input) d behind before old new st (end_of settings st entries) end) is
             (played (front input) (duty_of (judge settings head) last) (λ alone. asks-head (front input) head rest (comes head rest begins) (sym (judged-head settings head last) ∙ alone)) c k (first-in-hand (judge settings head) last) entries st legal calm old mid new end behind before
-            (ready-on old mid st input behind before rest ready uses there) (quiet-behind mid g more) g f))
+            (ready-on old mid st input behind before rest ready uses there) (quiet-after mid g more) g f))
 
     -- the stream ended in this turn
     last-turn : (left : ℕ) (scene : Scene) (before : List ℕ) (old new : Outside) (st : State) (end : End)
@@ -288,7 +288,7 @@ module _ (settings : Settings) (tells : Type 0) (witness : tells) where
           ]
         ]
 
-    -- the stream goes on behind this turn
+    -- the stream goes on after this turn
     next-turn : (left : ℕ) (scene : Scene) (before : List ℕ) (old mid new : Outside) (st : State) (end : End) → NoneFell old mid
         → ComesTo spare (AtTurn (front scene.input)) before (First settings left scene) old mid st None
         → ((input before' : List ℕ) → Ready mid st input before' → IsPlayedUpTo settings left (record { state = st; input = input; fetched = spare }) before' mid new end)

@@ -1,4 +1,4 @@
--- Each blob that a request puts or stages has the body that came behind its head.
+-- Each blob that a request puts or stages has the body that came after its head.
 use native.Mathlib.Omega.{arith}
 use Rattle.std.proofs.Common.{◌≡◌, ℕ, Bool, List, ◌++◌, length, take, Option, Some, None, Result, Ok, Err, refl, sym, subst, ap, ◌∙◌, length-append}
 use Rattle.std.specs.Prelude.{unwrap_or}
@@ -15,11 +15,11 @@ use Rattle.repo_model.specs.Settings.{Settings}
 use Rattle.repo_routes.specs.Intent.{Judged}
 use Rattle.repo_routes.specs.Judge.{judge}
 use Rattle.repo_routes.specs.declared.judging.Refused.{Refused}
-use Rattle.repo_course.specs.Course.{Close, Course, Deed, Outcome, invite, take_body, read_body, send_file, clean_all, fetch, store_fetched, of_fault}
+use Rattle.repo_course.specs.Course.{Close, Course, IoAction, Outcome, invite, take_body, read_body, send_file, clean_all, fetch, store_fetched, of_fault}
 use Rattle.repo_course.specs.declared.outcomes.Continued.{Continued}
 use Rattle.repo_course.specs.declared.outcomes.Continued.TheVariants as continued
 use Rattle.repo_course.specs.declared.outcomes.End.{End}
-use Rattle.repo_course.specs.declared.manner.Manner.{Manner}
+use Rattle.repo_course.specs.declared.mode.ResponseMode.{ResponseMode}
 use Rattle.repo_course.specs.Serving.{Begins, Continues, Does, IsWhole, Opens, clean, torn, failed, refused, unread_head, starved, served, Outside, RequestTurn, print_of}
 use Rattle.course_laws.specs.Duties.{MayAsk, MayDo, Stand, due_after, duty_of, idle, length_of, stand_after, stand_done}
 use Rattle.course_laws.specs.PutBodies.{AllPutBody, HasBody, PutsBody}
@@ -29,7 +29,7 @@ use Rattle.course_laws.proofs.Early.{still-due}
 use Rattle.course_laws.proofs.Kept.{duty_at, opens-keeps}
 use Rattle.course_laws.proofs.Passes.{IsPassCommand}
 
--- where no end is due behind a reply, none was before
+-- where no end is due after a reply, none was before
 pub undue : (command : Command) (reply : Reply) (s : Stand) → MayAsk command s → due_after s.rounds command reply s.due ≡ None → s.due ≡ None
 undue command reply s may none = pick s.due refl
   where
@@ -71,9 +71,9 @@ module _ (count : ℕ) (came : List ℕ) where
         bytes = subst (IsWhereTold blob.bytes) (sym takes) told_so;
       }
 
-  module _ (tells : Type 0) (by_text : List ℕ → Option Close) (manner : Manner) where
-    did : (deed : Deed) (outcome : Outcome deed) (mine : List Entry) (s : Stand) (old new : Outside) → MayDo manner deed s → Does tells deed outcome mine old new → Inv s old
-        → Inv (stand_done by_text deed outcome s) new
+  module _ (tells : Type 0) (by_text : List ℕ → Option Close) (mode : ResponseMode) where
+    did : (io_action : IoAction) (outcome : Outcome io_action) (mine : List Entry) (s : Stand) (old new : Outside) → MayDo mode io_action s → Does tells io_action outcome mine old new → Inv s old
+        → Inv (stand_done by_text io_action outcome s) new
     did invite outcome mine s old new may does inv = (
       inv.0,
       λ none n is. let (same, told) = inv.1 may.0 n is in (same, invites-still outcome old new does.1 ∙ told),
@@ -96,8 +96,8 @@ module _ (settings : Settings) (tells : Type 0) (last : Bool) where
       → RequestTurn settings tells last entries old new end → old.input ≡ Some input → front input ≡ Whole head rest → judge settings head ≡ Ok request
       → AllPutBody (length_of request.intent) rest entries
   turn-puts entries old new end input rest head request (c, mid, o, f) input-is front-is judged =
-      follows-each tells (PutsBody count rest) (Inv count rest) (of_pass count rest) (asked count rest) (replied count rest) (duty_at o).by_text (duty_at o).manner
-      (did count rest tells (duty_at o).by_text (duty_at o).manner) c (duty_at o).most (duty_at o).stand (opens-keeps settings last old mid c o) entries mid new end (starts o) f
+      follows-each tells (PutsBody count rest) (Inv count rest) (of_pass count rest) (asked count rest) (replied count rest) (duty_at o).by_text (duty_at o).mode
+      (did count rest tells (duty_at o).by_text (duty_at o).mode) c (duty_at o).most (duty_at o).stand (opens-keeps settings last old mid c o) entries mid new end (starts o) f
     where
       count : ℕ
       count = length_of request.intent

@@ -44,7 +44,7 @@ module _ (settings : Settings) (tells : Type 0) (last : Bool) where
           let said = follows _ is in
           let same : head ≡ other = (begins (IsWhole other left) it).0 in
           let head-is : cause.head_only ≡ is_head other =
-          ap (λ (r : Result Judged Refused). (duty_of r last).manner.head_only) (sym judged) ∙ judged-head settings head last ∙ ap is_head same in
+          ap (λ (r : Result Judged Refused). (duty_of r last).mode.head_only) (sym judged) ∙ judged-head settings head last ∙ ap is_head same in
           (said.0, starved mid (is_head other) (λ alone. head-is ∙ alone) (left, uses) said.1)
       opened (served other left it uses is) =
           let same : head ≡ other = (begins (IsWhole other left) it).0 in

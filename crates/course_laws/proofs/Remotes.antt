@@ -5,12 +5,12 @@ use Rattle.http_wire.specs.declared.answers.Answer.{Answer}
 use Rattle.repo_model.specs.History.{Entry}
 use Rattle.repo_model.specs.Settings.{Settings}
 use Rattle.repo_course.specs.Answers.{answer_of, memory_answer}
-use Rattle.repo_course.specs.Course.{Course, Deed, Outcome, asks, does, says, stops, end_of}
+use Rattle.repo_course.specs.Course.{Course, IoAction, Outcome, asks, does, says, stops, end_of}
 use Rattle.repo_course.specs.declared.outcomes.End.{End}
 use Rattle.repo_course.specs.Serving.{Does, Follows, Opens, clean, torn, failed, refused, unread_head, starved, served, Outside, Says, whole, memory, cut, ServesStream, RequestTurn}
 use Rattle.course_laws.specs.Landed.{GoesOn}
-pub use Rattle.course_laws.proofs.Fetching.{behind-none, goes-on, goes-then, Still, still-goes, fetched-goes, unfetched-goes, fetches-go}
-use Rattle.course_laws.proofs.Deeds.{deed-changes}
+pub use Rattle.course_laws.proofs.Fetching.{after-none, goes-on, goes-then, Still, still-goes, fetched-goes, unfetched-goes, fetches-go}
+use Rattle.course_laws.proofs.IoActions.{action-changes}
 
 pub says-still : (answer memory_said : Answer) (next : Option End) (old new : Outside) (end : Option End) → Says answer memory_said next old new end → Still old new
 says-still answer memory_said next old new end (whole is ends) = ap (λ (o : Outside). o.remote) is
@@ -27,16 +27,16 @@ opens-still settings last old new c (starved head rest begins uses is) = ap (λ 
 opens-still settings last old new c (served head rest begins uses is) = ap (λ (o : Outside). o.remote) uses
 
 module _ (tells : Type 0) where
-  pub deed-goes : (deed : Deed) (outcome : Outcome deed) (mine : List Entry) (old new : Outside) → Does tells deed outcome mine old new → GoesOn old.remote new.remote
-  deed-goes deed outcome mine old new t = (deed-changes tells deed outcome mine old new t).remote
+  pub action-goes : (io_action : IoAction) (outcome : Outcome io_action) (mine : List Entry) (old new : Outside) → Does tells io_action outcome mine old new → GoesOn old.remote new.remote
+  action-goes io_action outcome mine old new t = (action-changes tells io_action outcome mine old new t).remote
 
   pub follows-go : (c : Course) (entries : List Entry) (old new : Outside) (end : Option End) → Follows tells c entries old new end → GoesOn old.remote new.remote
   follows-go (asks command next) [] old new end f = absurd f
   follows-go (asks command next) (e ∷ entries) old new end f = follows-go (next e.reply) entries old new end f.1
-  follows-go (does deed next) entries old new end f =
-      goes-then old.remote f.3.remote new.remote (deed-goes deed f.0 f.1 old f.3 f.5) (follows-go (next f.0) f.2 f.3 new end f.6)
-  follows-go (says said manner) entries old new end f =
-      still-goes old new (says-still (answer_of said manner) (memory_answer manner.head_only) (end_of manner) old new end f.1)
+  follows-go (does io_action next) entries old new end f =
+      goes-then old.remote f.3.remote new.remote (action-goes io_action f.0 f.1 old f.3 f.5) (follows-go (next f.0) f.2 f.3 new end f.6)
+  follows-go (says said mode) entries old new end f =
+      still-goes old new (says-still (answer_of said mode) (memory_answer mode.head_only) (end_of mode) old new end f.1)
   follows-go (stops next) entries old new end f = still-goes old new (ap (λ (o : Outside). o.remote) f.1)
 
   module _ (settings : Settings) where

@@ -9,7 +9,7 @@ use Rattle.repo_model.specs.Data.{Blob}
 use Rattle.repo_course.specs.declared.outcomes.Sent.TheVariants as sent
 use Rattle.repo_course.specs.Serving.{IsContentSoFar, IsCut, IsFrontOf, IsOtherContent, Outside, SendsAnswer, print_of, writes}
 
--- the bytes behind the head
+-- the bytes after the head
 abbrev pub rest_of : Bool → List ℕ → List ℕ
 rest_of only bytes = if only then [] else bytes
 

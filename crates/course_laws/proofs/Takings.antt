@@ -5,7 +5,7 @@ use Rattle.outside.specs.Told.{IsAtEnd, in_front}
 use Rattle.repo_course.specs.declared.outcomes.Took.TheVariants as took
 use Rattle.repo_course.specs.Serving.{Fails, Outside, Reads}
 
--- nothing is left behind a front of it
+-- nothing is left after a front of it
 all-told : (count : ℕ) (gone : List ℕ) (input rest : Option (List ℕ)) → length gone < count → input ≡ in_front gone rest → IsAtEnd rest
     → IfSome input (λ bytes. length bytes < count)
 all-told count gone input None less is end = subst (λ i. IfSome i (λ bytes. length bytes < count)) (sym is) tt

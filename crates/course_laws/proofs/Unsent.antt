@@ -9,8 +9,8 @@ use Rattle.repo_model.specs.Reply.{Reply}
 use Rattle.repo_routes.specs.Intent.{Intent, Judged, puts_side, puts_document}
 use Rattle.repo_routes.specs.declared.judging.Refused.{Refused}
 use Rattle.repo_course.specs.Course.{Close, speaks, rests}
-use Rattle.repo_course.specs.declared.manner.Manner.{Manner}
-use Rattle.repo_course.specs.declared.said.Said.TheVariants as said
+use Rattle.repo_course.specs.declared.mode.ResponseMode.{ResponseMode}
+use Rattle.repo_course.specs.declared.response.Response.TheVariants as response
 use Rattle.course_laws.specs.Duties.{MayAsk, Stand, by_digest, by_document, due_after, duty_of, for_text, stand_after}
 use Rattle.course_laws.proofs.Early.{still-due}
 
@@ -27,8 +27,8 @@ abbrev pub MayStand : Stand → List ℕ → Type 0
 MayStand s written = IsUnsent s.due × ((written ≡ []) ⊎ ((s.waits ≡ true) × (written ≡ continue_bytes)))
 
 -- so, and the answer that says so is its head alone where the course's answers are
-abbrev pub MayStarve : Manner → Stand → Bool → List ℕ → Type 0
-MayStarve manner s alone written = (alone ≡ manner.head_only) × MayStand s written
+abbrev pub MayStarve : ResponseMode → Stand → Bool → List ℕ → Type 0
+MayStarve mode s alone written = (alone ≡ mode.head_only) × MayStand s written
 
 pub reply-unsent : (command : Command) (reply : Reply) (s : Stand) → MayAsk command s → IsUnsent (due_after s.rounds command reply s.due) → IsUnsent s.due
 reply-unsent command reply s may un = pick s.due refl
@@ -42,7 +42,7 @@ pub reply-may : (command : Command) (reply : Reply) (s : Stand) → MayAsk comma
 reply-may command reply s may written stood = (reply-unsent command reply s may stood.0, stood.1)
 
 -- what has nothing, and what has each answer to a text that is refused, what is due for a body's text has
-module _ (P : Option Close → Type 0) (none : P None) (no_digest : P (Some (speaks said.NoDigest))) (no_document : (at : ℕ) → P (Some (speaks (said.NoDocument at)))) where
+module _ (P : Option Close → Type 0) (none : P None) (no_digest : P (Some (speaks response.NoDigest))) (no_document : (at : ℕ) → P (Some (speaks (response.NoDocument at)))) where
   digest-due : (found : Option (List ℕ)) → P (by_digest found)
   digest-due (Some digest) = none
   digest-due None = no_digest

@@ -12,7 +12,7 @@ use Rattle.mvn_metadata.specs.Document.{Document}
 use Rattle.repo_model.specs.Command.{Command, done, drop_draft, is_file_path, is_fit, is_landing, is_parcel, meets, proxy_rule_of, rule_of}
 use Rattle.repo_model.specs.Data.{Blob, Phase, Row, Session, Staged, fading, listed}
 use Rattle.repo_model.specs.Deploy.{deliver_again, deliver_at, deliver_all, discard_all}
-use Rattle.repo_model.specs.Effect.{Effect, delivers, discards, relists, opens, ends, drops, caches, clears_mark, marks_missing, with_effect, with_effects, yard_after}
+use Rattle.repo_model.specs.Effect.{Effect, delivers, discards, relists, opens, ends, drops, caches, clears_negative, adds_negative, with_effect, with_effects, yard_after}
 use Rattle.repo_model.specs.Fetched.{Landing, got_file, got_doc}
 use Rattle.repo_model.specs.History.{Entry, Fits, IsReply, due, wants_memory, failed, after, commits, ticked}
 use Rattle.repo_model.specs.Paths.{takes}
@@ -30,19 +30,19 @@ use Rattle.course_laws.specs.Duties.{MayAsk, Stand, draft_after, lease_after, st
 not_below : (n m : ℕ) → m < n → (m == n) ≡ false
 not_below n m below = ne_eqb m n (λ is. omega (arith, is, below))
 
--- a number that stands behind smaller ones is taken away again
+-- a number that stands after smaller ones is taken away again
 pub taken_away : {X : Type 0} (number : X → ℕ) (next n : ℕ) (x : X) (xs : List X) → number x ≡ n → next ≤ n → NumbersAreBelow number next xs
     → filter (λ y. not (number y == n)) (xs ++ x ∷ []) ≡ xs
 taken_away number next n x [] is up below = rw (is, eq-eqb n n refl) refl
 taken_away number next n x (y ∷ ys) is up below =
     rw (not_below n (number y) (let here = below.0 in omega arith)) (ap (λ zs. y ∷ zs) (taken_away number next n x ys is up below.1))
 
--- a number stands among those behind which it was put
+-- a number stands among those after which it was put
 stands_last : (n : ℕ) (ns : List ℕ) → is_among n (ns ++ n ∷ []) ≡ true
 stands_last n [] = rw (eq-eqb n n refl) refl
 stands_last n (m ∷ ms) = or_right (m == n) (is_among n (ms ++ n ∷ [])) (stands_last n ms)
 
--- the draft and the lease that a course holds stand behind those that stood before it, if these are below the next ones to draw
+-- the draft and the lease that a course holds stand after those that stood before it, if these are below the next ones to draw
 abbrev pub OwnDraft : Yard → Option ℕ → List ℕ → Type 0
 OwnDraft before None drafts = IsDrawn before → drafts ≡ before.drafts
 OwnDraft before (Some n) drafts = (IsDrawn before → drafts ≡ before.drafts ++ n ∷ []) × (before.next_draft ≤ n) × (is_among n drafts ≡ true)
@@ -121,7 +121,7 @@ module _ (before : Yard) where
   number-is : (a : Bool) (n : ℕ) (blob : Blob) → IsTrue (a && is_parcel n blob) → blob.number ≡ n
   number-is a n blob holds = eqb-true blob.number n (and_parts (blob.number == n) _ (and_parts a (is_parcel n blob) holds).1).0
 
-  -- what is held behind a turn, and the reply is not that a draft is missing
+  -- what is held after a turn, and the reply is not that a draft is missing
   abbrev Goes : Command → Stand → State → Turn → Type 0
   Goes c s st t = Holding before (draft_after c t.reply s.draft) (lease_after c t.reply s.lease) (with_effects st t.effects).yard × (t.reply ≢ no_draft)
 
@@ -236,7 +236,7 @@ module _ (before : Yard) where
         none-held under is none = subst (λ d. Holding before d s.lease st.yard) (is ∙ none) h
 
         file-held : (k : Result Kind PathFault) (under : Option ℕ) (blob : Blob) → s.draft ≡ under → IsTrue (is_landing k under (came.Got (got_file blob))) → (moment : ℕ)
-            → Holding before None s.lease (with_effects st (caches plan.proxy plan.path blob moment ∷ clears_mark plan.proxy plan.path ∷ [])).yard
+            → Holding before None s.lease (with_effects st (caches plan.proxy plan.path blob moment ∷ clears_negative plan.proxy plan.path ∷ [])).yard
         file-held (Ok (File c)) (Some n) blob is fits moment =
             given-up s n st.yard _ is h (ap (λ k. filter (λ m. not (m == k)) st.yard.drafts) (number-is true n blob fits)) refl refl refl
         file-held (Ok (Doc d)) None blob is fits moment = absurd (false≢true fits)
@@ -250,12 +250,12 @@ module _ (before : Yard) where
         row-held : (blob : Blob) (found : Option Row) → IsTrue (is_landing (kind plan.path) plan.draft (came.Got (got_file blob)))
             → Holding before None s.lease (with_effects st (lands_file plan blob now found)).yard
         row-held blob None fits = file-held (kind plan.path) plan.draft blob may.2 fits now
-        row-held blob (Some row) fits = up-held plan.draft may.2 _ (effects-yard (gives_draft_up plan.draft) (with_effect st (clears_mark plan.proxy plan.path)) st refl)
+        row-held blob (Some row) fits = up-held plan.draft may.2 _ (effects-yard (gives_draft_up plan.draft) (with_effect st (clears_negative plan.proxy plan.path)) st refl)
 
         lands-hold : (outcome : Landing) → IsTrue (is_landing (kind plan.path) plan.draft outcome) → Holding before None s.lease (with_effects st (lands st now plan outcome)).yard
         lands-hold (came.Got (got_file blob)) fits = row-held blob (row_at plan.path (files_of plan.proxy st)) fits
         lands-hold (came.Got (got_doc document)) fits = none-held plan.draft may.2 (document-undrawn (kind plan.path) plan.draft document fits)
-        lands-hold came.Gone fits = up-held plan.draft may.2 _ (effects-yard (gives_draft_up plan.draft) (with_effect st (marks_missing plan.proxy plan.path now)) st refl)
+        lands-hold came.Gone fits = up-held plan.draft may.2 _ (effects-yard (gives_draft_up plan.draft) (with_effect st (adds_negative plan.proxy plan.path now)) st refl)
         lands-hold outcome fits = up-held plan.draft may.2 _ refl
     case-goes now c t (lands_late plan outcome late) may can = absurd (not-late plan.draft may.2 late)
       where

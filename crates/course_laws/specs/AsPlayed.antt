@@ -40,14 +40,14 @@ planned_by command reply = []
 abbrev pub plans_of : List Entry → List Plan
 plans_of entries = flat_map (λ (e : Entry). planned_by e.command e.reply) entries
 
--- What the fetch of a plan came to by what was seen of the remote before it and behind it. Where memory was wanted for it at most three
+-- What the fetch of a plan came to by what was seen of the remote before it and after it. Where memory ran out for it at most three
 -- exchanges were made, and where it was wanted for what follows, the fetch was made.
 abbrev pub IsFetch : Plan → Fetch → Sees → Sees → Type 0
 IsFetch plan (Some outcome) old new = IsFetched plan outcome old new
 IsFetch plan None old new = Reaches 3 old new ⊎ ((outcome : Came Content) × IsFetched plan outcome old new)
 
 -- These plans were fetched, one after another, and came to this, and of the remote nothing else was seen. Only the last of them may be
--- left, by a look behind which no fetch may come any more.
+-- left, by a look after which no fetch may come any more.
 abbrev pub AreFetched : List Plan → List Fetch → Sees → Sees → Type 0
 AreFetched plans [] old new = (length plans ≤ 1) × (new ≡ old)
 AreFetched [] (came ∷ more) old new = ⊥
@@ -68,7 +68,7 @@ abbrev pub AsksHead : Front → Type 0
 AsksHead (Whole head rest) = is_head head ≡ true
 AsksHead _ = ⊥
 
--- Whole answers of the first requests, as they are played, and behind them nothing, or `100 Continue` where the next one is
+-- Whole answers of the first requests, as they are played, and after them nothing, or `100 Continue` where the next one is
 -- played so. A next one may still come, and an answer to it that is its head alone is one to HEAD.
 unfoldable pub IsAnswers : Settings → ℕ → Scene → Bool → List ℕ → Type 0
 IsAnswers settings zero scene head_only written = ⊥
@@ -78,8 +78,8 @@ IsAnswers settings (suc left) scene head_only written =
     × ((written ≡ []) ⊎ ((written ≡ continue_bytes) × IsFrontOf continue_bytes played.written)))
     ⊎ ((rest : List ℕ) × (played.end ≡ None) × (written ≡ played.written ++ rest) × IsAnswers settings left played.scene head_only rest)
 
--- The stream of at most so many requests has taken what is played and ended so, or, from where memory was wanted, the answer
--- that says so, or its head alone: behind the whole answers of the requests before it, and maybe its own `100 Continue`.
+-- The stream of at most so many requests has taken what is played and ended so, or, from where memory ran out, the answer
+-- that says so, or its head alone: after the whole answers of the requests before it, and maybe its own `100 Continue`.
 pub data IsAsPlayed (settings : Settings) (n : ℕ) (scene : Scene) (before : List ℕ) (output : Option (List ℕ)) (end : End) : Type 0 where
   in_full : output ≡ Some (before ++ (play_stream settings n scene).written) → end ≡ (play_stream settings n scene).end
       → IsAsPlayed settings n scene before output end
@@ -94,7 +94,7 @@ Broke old new end =
     ((end ≡ stream.SourceFault) × Rose old.read_faults new.read_faults)
     ⊎ ((end ≡ stream.SinkFault) × Rose old.write_faults new.write_faults)
 
--- As played, or a front of that, up to where the source or the sink failed; or the sink failed in the answer that memory was wanted.
+-- As played, or a front of that, up to where the source or the sink failed; or the sink failed in the answer that memory ran out.
 pub data IsPlayedUpTo (settings : Settings) (n : ℕ) (scene : Scene) (before : List ℕ) (old new : Outside) (end : End) : Type 0 where
   unbroken : IsAsPlayed settings n scene before new.output end → IsPlayedUpTo settings n scene before old new end
   broken : (written : List ℕ) → IsFrontOf written (play_stream settings n scene).written → new.output ≡ Some (before ++ written)
@@ -111,6 +111,6 @@ pub record BeginsAt (start : State) (input output : List ℕ) (o : Outside) : Ty
   pub rows : RowsTold start
   pub clock : IsSome start.clock
 
--- the last that the stream has taken says that memory was wanted
+-- the last that the stream has taken says that memory ran out
 abbrev pub WantedMemory : List ℕ → Option (List ℕ) → Type 0
 WantedMemory before output = (front : List ℕ) × (head_only : Bool) × (output ≡ Some (before ++ front ++ shown (memory_answer head_only)))

@@ -1,5 +1,5 @@
 -- What a course owes, step by step: the draft and the lease that it holds, the body and the pass that it has not done, the one
--- answer that it gives and how the stream ends behind it, and the commands that it may still ask.
+-- answer that it gives and how the stream ends after it, and the commands that it may still ask.
 use Rattle.std.specs.Prelude.{◌≡◌, ℕ, zero, suc, ◌+◌, ◌≤◌, max, min, length, Bool, true, false, if◌then◌else◌, List, [], ◌∷◌, ◌++◌, Option, Some, None, Result, Ok, Err, unwrap_or}
 use Rattle.std.specs.Option.{option_map}
 use Rattle.fetch_plan.specs.declared.Outcome.{Outcome as Came}
@@ -20,12 +20,12 @@ use Rattle.repo_routes.specs.Intent.{Intent, Judged, reads as reads_path, puts_f
 use Rattle.repo_routes.specs.declared.judging.Refused.{Refused}
 use Rattle.repo_course.specs.declared.fetched.Verdict.TheVariants as verdict
 use Rattle.repo_course.specs.Answers.{at_end}
-use Rattle.repo_course.specs.Course.{Close, Course, Fetch, Outcome, asks, does, says, stops, speaks, rests, fetch_fault, head_said, is_group, manner_for, manner_refused, rounds_of, said_missed, said_of, with_fault, with_unread}
-use Rattle.repo_course.specs.declared.manner.Manner.{Manner}
-use Rattle.repo_course.specs.declared.said.Said.{Said}
-use Rattle.repo_course.specs.declared.said.Said.TheVariants as said
+use Rattle.repo_course.specs.Course.{Close, Course, Fetch, Outcome, asks, does, says, stops, speaks, rests, fetch_fault, head_said, is_group, mode_for, mode_refused, rounds_of, response_missed, response_of, with_fault, with_unread}
+use Rattle.repo_course.specs.declared.mode.ResponseMode.{ResponseMode}
+use Rattle.repo_course.specs.declared.response.Response.{Response}
+use Rattle.repo_course.specs.declared.response.Response.TheVariants as response
 pub use Rattle.course_laws.specs.Stands.{Rounds, no_rounds, Stand, idle, IsReady, IsFree, HoldsNothing}
-pub use Rattle.course_laws.specs.Deeds.{IsInPlace, MayDo, asked_by, left_by, stored_done, unread_done, waits_done, to_clean_done, came_done, kept_done, due_behind, due_done, stand_done}
+pub use Rattle.course_laws.specs.IoActions.{IsInPlace, MayDo, asked_by, left_by, stored_done, unread_done, waits_done, to_clean_done, came_done, kept_done, due_behind, due_done, stand_done}
 
 -- the length of the body that comes with what is asked for
 abbrev pub body_length : Intent → Option ℕ
@@ -72,7 +72,7 @@ at_first expects intent = record idle {
   rounds = rounds_for intent;
 }
 
--- the replies behind which the draft of a blob that is put or staged is used up, or was given up in that turn
+-- the replies after which the draft of a blob that is put or staged is used up, or was given up in that turn
 abbrev pub spends_draft : Reply → Bool
 spends_draft (taken kept given) = true
 spends_draft same = true
@@ -113,7 +113,7 @@ came_after (look repo path tried) came = None
 came_after (land plan outcome) came = None
 came_after command came = came
 
--- behind a landing one fetch less may come, its member was tried, and what came of it counts
+-- after a landing one fetch less may come, its member was tried, and what came of it counts
 abbrev pub one_less : ℕ → ℕ
 one_less zero = zero
 one_less (suc n) = n
@@ -126,16 +126,16 @@ rounds_after (land plan outcome) r = record {
 }
 rounds_after command r = r
 
--- where no fetch may come any more a plan counts as want of memory
+-- where no fetch may come any more a plan counts as out of memory
 abbrev pub due_planned : ℕ → Option Close → Option Close
-due_planned zero due = Some (speaks said.NoMemory)
+due_planned zero due = Some (speaks response.NoMemory)
 due_planned (suc n) due = due
 
 -- A reply is answered, but for a file, a draft, a plan, what has landed, what only gives back, and the commands of a pass. That nothing
 -- is there is answered by what was fetched.
 abbrev pub due_after : Rounds → Command → Reply → Option Close → Option Close
 due_after r (look repo path tried) (file lease blob) due = due
-due_after r (look repo path tried) missed due = Some (speaks (said_missed r.so_far))
+due_after r (look repo path tried) missed due = Some (speaks (response_missed r.so_far))
 due_after r (look repo path tried) (fetches plan) due = due_planned r.left due
 due_after r (may_put place path) (draft n) due = due
 due_after r (done lease) reply due = due
@@ -143,7 +143,7 @@ due_after r (drop_draft n) reply due = due
 due_after r (unlist repo) reply due = due
 due_after r collect reply due = due
 due_after r (land plan outcome) landed due = due
-due_after r command reply due = Some (speaks (said_of reply))
+due_after r command reply due = Some (speaks (response_of reply))
 
 abbrev pub stand_after : Command → Reply → Stand → Stand
 stand_after command reply s = record s {
@@ -173,7 +173,7 @@ abbrev pub landing_by : Fetch → Option Blob → Option Landing
 landing_by None stored = None
 landing_by (Some outcome) stored = landing_of outcome stored
 
--- What it must hold to ask a command: once an end is due it only gives back, and but for a draft it asks behind its body. The
+-- What it must hold to ask a command: once an end is due it only gives back, and but for a draft it asks after its body. The
 -- commands of a pass are asked by the pass. What lands is what came of the plan's own fetch; and a look is at
 -- the path that is asked for, names the members that were tried, and comes once what was planned has landed.
 abbrev pub MayAsk : Command → Stand → Type 0
@@ -195,48 +195,48 @@ MayAsk (ask question) s = IsFree s
 MayAsk (land plan outcome) s =
     IsFree s × (s.plan ≡ Some plan) × (s.draft ≡ plan.draft) × (landing_by s.came s.kept ≡ Some outcome)
 
--- the manner of an answer, where this body is not read
-abbrev pub manner_of : Said → Option ℕ → Manner → Manner
-manner_of said.NoMemory unread manner = at_end manner.head_only
-manner_of said unread manner = with_unread (unwrap_or unread 0) manner
+-- the mode of an answer, where this body is not read
+abbrev pub mode_of : Response → Option ℕ → ResponseMode → ResponseMode
+mode_of response.NoMemory unread mode = at_end mode.head_only
+mode_of said unread mode = with_unread (unwrap_or unread 0) mode
 
--- The course does what it owes, with at most so many commands, whatever is replied and however its deeds end: it ends as is due for
--- what they came to, holding nothing, with an answer in the manner of the request, or without one, and then the connection goes
+-- The course does what it owes, with at most so many commands, whatever is replied and however its I/O actions end: it ends as is due for
+-- what they came to, holding nothing, with an answer in the mode of the request, or without one, and then the connection goes
 -- on only where the body was read.
-abbrev pub Keeps : (List ℕ → Option Close) → Manner → Course → ℕ → Stand → Type 0
-Keeps by_text manner (asks command next) zero s = ⊥
-Keeps by_text manner (asks command next) (suc n) s =
-    MayAsk command s × ((reply : Reply) → Keeps by_text manner (next reply) n (stand_after command reply s))
-Keeps by_text manner (does deed next) n s =
-    MayDo manner deed s × (asked_by deed ≤ n)
-    × ((outcome : Outcome deed) → Keeps by_text manner (next outcome) (left_by deed n) (stand_done by_text deed outcome s))
-Keeps by_text manner (says said own) n s = HoldsNothing s × (s.due ≡ Some (speaks said)) × (own ≡ manner_of said s.unread manner)
-Keeps by_text manner (stops end) n s = HoldsNothing s × (s.due ≡ Some (rests end)) × (end ≡ None → s.unread ≡ None)
+abbrev pub Keeps : (List ℕ → Option Close) → ResponseMode → Course → ℕ → Stand → Type 0
+Keeps by_text mode (asks command next) zero s = ⊥
+Keeps by_text mode (asks command next) (suc n) s =
+    MayAsk command s × ((reply : Reply) → Keeps by_text mode (next reply) n (stand_after command reply s))
+Keeps by_text mode (does io_action next) n s =
+    MayDo mode io_action s × (asked_by io_action ≤ n)
+    × ((outcome : Outcome io_action) → Keeps by_text mode (next outcome) (left_by io_action n) (stand_done by_text io_action outcome s))
+Keeps by_text mode (says said own) n s = HoldsNothing s × (s.due ≡ Some (speaks said)) × (own ≡ mode_of said s.unread mode)
+Keeps by_text mode (stops end) n s = HoldsNothing s × (s.due ≡ Some (rests end)) × (end ≡ None → s.unread ≡ None)
 
--- The course answers what is due, and only that, whatever is replied and however its deeds end; and where nothing is due to be said it
+-- The course answers what is due, and only that, whatever is replied and however its I/O actions end; and where nothing is due to be said it
 -- says nothing.
 abbrev pub AnswersDue : (List ℕ → Option Close) → Course → Rounds → Option Close → Type 0
 AnswersDue by_text (asks command next) r due =
     (reply : Reply) → AnswersDue by_text (next reply) (rounds_after command r) (due_after r command reply due)
-AnswersDue by_text (does deed next) r due = (outcome : Outcome deed) → AnswersDue by_text (next outcome) r (due_done by_text deed outcome due)
+AnswersDue by_text (does io_action next) r due = (outcome : Outcome io_action) → AnswersDue by_text (next outcome) r (due_done by_text io_action outcome due)
 AnswersDue by_text (says said own) r due = due ≡ Some (speaks said)
 AnswersDue by_text (stops end) r due = due ≡ Some (rests end)
 
 -- a side file that says no digest is refused, and a text that is no document, by its first fault
 abbrev pub by_digest : Option (List ℕ) → Option Close
 by_digest (Some digest) = None
-by_digest None = Some (speaks said.NoDigest)
+by_digest None = Some (speaks response.NoDigest)
 
 abbrev pub by_document : Result Document ℕ → Option Close
 by_document (Ok document) = None
-by_document (Err at) = Some (speaks (said.NoDocument at))
+by_document (Err at) = Some (speaks (response.NoDocument at))
 
 abbrev pub for_text : Intent → List ℕ → Option Close
 for_text (puts_side place path side count) bytes = by_digest (read_side side bytes)
 for_text (puts_document place path count) bytes = by_document (reading bytes)
 for_text intent bytes = None
 
--- how many commands come with a look behind which so many fetches may come, at most: itself, two for each fetch, and one that gives back
+-- how many commands come with a look after which so many fetches may come, at most: itself, two for each fetch, and one that gives back
 abbrev pub twice : ℕ → ℕ
 twice zero = zero
 twice (suc n) = suc (suc (twice n))
@@ -266,26 +266,26 @@ most_asked settings = max (max 3 (length settings.hosted + 1)) (looks_most (most
 pub record Duty : Type 0 where
   -- what is due for the bytes of a small body
   pub by_text : List ℕ → Option Close
-  pub manner : Manner
+  pub mode : ResponseMode
   pub most : ℕ
   pub stand : Stand
 
 abbrev pub Fulfils : Duty → Course → Type 0
-Fulfils duty course = Keeps duty.by_text duty.manner course duty.most duty.stand
+Fulfils duty course = Keeps duty.by_text duty.mode course duty.most duty.stand
 
 -- to end so, and no more
-abbrev pub to_end : Close → Manner → Duty
-to_end due manner = record { by_text = λ bytes. None; manner = manner; most = 0; stand = record idle { due = Some due } }
+abbrev pub to_end : Close → ResponseMode → Duty
+to_end due mode = record { by_text = λ bytes. None; mode = mode; most = 0; stand = record idle { due = Some due } }
 
 -- so for a request, for one that is refused by its head, and for what is no head
 abbrev pub duty_of : Result Judged Refused → Bool → Duty
 duty_of (Ok request) last = record {
   by_text = for_text request.intent;
-  manner = manner_for request last;
+  mode = mode_for request last;
   most = most_for request.intent;
   stand = at_first request.expects request.intent;
 }
-duty_of (Err refused) last = to_end (speaks (said.Refused refused.refusal)) (manner_refused refused last)
+duty_of (Err refused) last = to_end (speaks (response.Refused refused.refusal)) (mode_refused refused last)
 
 abbrev pub duty_without_head : HeadFault → Duty
 duty_without_head fault = to_end (speaks (head_said fault)) (at_end false)

@@ -1,6 +1,6 @@
 pub mod Stands
 pub mod Scenes
-pub mod Deeds
+pub mod IoActions
 pub mod Duties
 pub mod Endings
 pub mod LeftBehind

@@ -1,4 +1,4 @@
--- The body of a PUT: of what came behind its head as many bytes as this announced.
+-- The body of a PUT: of what came after its head as many bytes as this announced.
 use Rattle.std.specs.Prelude.{◌≡◌, ◌≤◌, ℕ, List, length, take}
 use Rattle.std.specs.List.{AllByRecursion}
 use Rattle.outside.specs.Told.{IsWhereTold}

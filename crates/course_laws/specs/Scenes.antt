@@ -8,7 +8,7 @@ use Rattle.repo_model.specs.Reply.{Reply, unlisted, collected}
 use Rattle.repo_model.specs.Settings.{Settings}
 use Rattle.repo_course.specs.Answers.{file_answer}
 use Rattle.repo_course.specs.Course.{Fetch, Body, Stored}
-use Rattle.repo_course.specs.declared.manner.Manner.{Manner}
+use Rattle.repo_course.specs.declared.mode.ResponseMode.{ResponseMode}
 use Rattle.http_wire.specs.Answer.{shown}
 use Rattle.outside.specs.Moments.{Moments}
 use Rattle.outside.specs.Faults.{last_count}
@@ -75,7 +75,7 @@ done_by entries = record {
 abbrev pub pass_entries : Settings → State → List (List ℕ) → List Entry
 pass_entries settings s repos = due_entries settings s (map unlist repos ++ collect ∷ [])
 
--- what the next fetch comes to, and what those behind it do; where nothing more is told the remote fails
+-- what the next fetch comes to, and what those after it do; where nothing more is told the remote fails
 abbrev pub next_fetched : List Fetch → Fetch
 next_fetched [] = Some came.Fault
 next_fetched (outcome ∷ more) = outcome
@@ -85,5 +85,5 @@ later_fetched [] = []
 later_fetched (outcome ∷ more) = more
 
 -- the bytes of a file's answer
-abbrev pub file_bytes : Blob → Manner → List ℕ
-file_bytes blob manner = shown (file_answer blob manner) ++ (if manner.head_only then [] else unwrap_or blob.bytes [])
+abbrev pub file_bytes : Blob → ResponseMode → List ℕ
+file_bytes blob mode = shown (file_answer blob mode) ++ (if mode.head_only then [] else unwrap_or blob.bytes [])

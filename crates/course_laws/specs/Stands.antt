@@ -37,7 +37,7 @@ pub record Stand : Type 0 where
   pub plan : Option Plan
   pub came : Fetch
   pub kept : Option Blob
-  -- what the look that is made has behind it, and may have before it
+  -- what the look that is made has after it, and may have before it
   pub rounds : Rounds
   -- how it must end, once that is known
   pub due : Option Close

@@ -16,11 +16,11 @@ ghost use Rattle.repo_routes.specs.Judge.{IsJudged, judge};
 ghost use Rattle.repo_routes.specs.declared.judging.Refused.{Refused};
 ghost use Rattle.http_wire.specs.declared.answers.Status.TheVariants as status;
 ghost use Rattle.repo_course.specs.Answers.{fetch_status};
-ghost use Rattle.repo_course.specs.Course.{Fetch, course_of, fetch_fault, refuses_head, said_missed};
+ghost use Rattle.repo_course.specs.Course.{Fetch, course_of, fetch_fault, refuses_head, response_missed};
 ghost use Rattle.repo_course.specs.declared.fetched.FetchFault.{FetchFault};
 ghost use Rattle.repo_course.specs.declared.fetched.FetchFault.TheVariants as unfetched;
 ghost use Rattle.repo_course.specs.declared.fetched.Verdict.TheVariants as verdict;
-ghost use Rattle.repo_course.specs.declared.said.Said.TheVariants as said;
+ghost use Rattle.repo_course.specs.declared.response.Response.TheVariants as response;
 ghost use Rattle.repo_course.specs.declared.outcomes.End.{End};
 ghost use Rattle.repo_course.specs.Serving.{AllTell, Outside, ServesStream, RequestTurn};
 ghost use Rattle.repo_model.specs.History.{Entry, Legal, end};
@@ -59,7 +59,7 @@ pub fn calls_are_few<H: Held>()
         ServesStream settings (AllTell H.bytes) n entries old new ending → length entries ≤ most_asked settings * n }
 {}
 
-/// A stream that is served alone leaves no draft and no lease behind: each draft that a course was given was put,
+/// A stream that is served alone leaves no draft and no lease after: each draft that a course was given was put,
 /// landed or given up, and each lease was given back, on every way out. The drafts and leases that stood before, of other
 /// callers, stand as they did.
 pub fn nothing_is_left_behind<H: Held>()
@@ -80,7 +80,7 @@ pub fn landings_are_fetched<H: Held>()
         ServesStream settings (AllTell H.bytes) n entries old new ending → AllLandWhatCame old.remote new.remote entries }
 {}
 
-/// Each file that a request puts or stages has the body that came behind its head, on a stream that tells its input: as many bytes as the
+/// Each file that a request puts or stages has the body that came after its head, on a stream that tells its input: as many bytes as the
 /// head announced, and all of these came. Its blob has their fingerprint, and tells them, where it tells its bytes.
 pub fn puts_have_the_body_that_came<H: Held>()
     ensures { (settings : Settings) (last : Bool) (entries : List Entry) (old new : Outside) (ending : Option End) (input rest : List ℕ)
@@ -108,28 +108,28 @@ pub fn answered_files_were_fetched<H: Held>()
 {}
 
 /// Each course of a request, and each refusal, has an answer for each reply that its commands can get in a state in order, and for
-/// all that its deeds can come to: unless memory was wanted, it does not end in want of memory. So a plan never comes where nothing
+/// all that its I/O actions can come to: unless memory ran out, it does not end out of memory. So a plan never comes where nothing
 /// may be fetched any more.
 pub fn courses_are_complete()
     ensures requests { (settings : Settings) (judged : Result Judged Refused) (last : Bool) → IfOk judged (IsJudged settings) → IsComplete settings (course_of judged last) }
     ensures no_heads { (settings : Settings) (fault : HeadFault) → IsComplete settings (refuses_head fault) }
 {}
 
-/// Each course of a request, and each refusal, does what it owes, whatever is replied and however its deeds end: a request asks
+/// Each course of a request, and each refusal, does what it owes, whatever is replied and however its I/O actions end: a request asks
 /// at most three commands, or for a read two and two more for each fetch, or for a pass one for each repository and one more, and a
 /// refusal none; it puts its draft or gives it
 /// up, gives its lease back and holds it while a file is sent; it invites its body where the client waits for that, reads it by
 /// its length, once, and asks nothing but a draft before; a pass goes over the repositories that are asked for. It ends once, as is
-/// due for what its commands and deeds came to: with an answer in the manner of the request, which closes the connection where
-/// the body was not read or memory was wanted, and is a head alone to HEAD; or, behind a file, whole or cut, or where a side of the
+/// due for what its commands and I/O actions came to: with an answer in the mode of the request, which closes the connection where
+/// the body was not read or memory ran out, and is a head alone to HEAD; or, after a file, whole or cut, or where a side of the
 /// stream failed, with none.
 pub fn courses_keep_their_duties()
     ensures requests { (judged : Result Judged Refused) (last : Bool) → Fulfils (duty_of judged last) (course_of judged last) }
     ensures no_heads { (fault : HeadFault) → Fulfils (duty_without_head fault) (refuses_head fault) }
 {}
 
-/// Each course of a request, and each refusal, gives the answer that is due for what its commands and deeds came to, and no other,
-/// whatever is replied and however the deeds end.
+/// Each course of a request, and each refusal, gives the answer that is due for what its commands and I/O actions came to, and no other,
+/// whatever is replied and however the I/O actions end.
 pub fn answers_have_their_causes()
     ensures requests { (judged : Result Judged Refused) (last : Bool) →
         let duty = duty_of judged last in AnswersDue duty.by_text (course_of judged last) duty.stand.rounds duty.stand.due }
@@ -143,16 +143,16 @@ pub fn answers_have_their_causes()
 pub fn first_faults_are_said()
     ensures first { (of_group : Bool) (before more : List (Option FetchFault)) (why : FetchFault) →
         AllByRecursion (λ (x : Option FetchFault). x ≡ None) before →
-        said_missed (with_faults (verdict.Unasked of_group) (before ++ Some why ∷ more)) ≡ said.NotFetched why }
+        response_missed (with_faults (verdict.Unasked of_group) (before ++ Some why ∷ more)) ≡ response.NotFetched why }
     ensures gone { (of_group : Bool) (whys : List (Option FetchFault)) → whys ≢ [] → AllByRecursion (λ (x : Option FetchFault). x ≡ None) whys →
-        said_missed (with_faults (verdict.Unasked of_group) whys) ≡ (if of_group then said.NotThere else said.RemoteGone) }
-    ensures unasked { (of_group : Bool) → said_missed (verdict.Unasked of_group) ≡ said.NotThere }
+        response_missed (with_faults (verdict.Unasked of_group) whys) ≡ (if of_group then response.NotThere else response.RemoteGone) }
+    ensures unasked { (of_group : Bool) → response_missed (verdict.Unasked of_group) ≡ response.NotThere }
     ensures faultless { (o : Came Content) → (fetch_fault o ≡ None) ↔ ((o ≡ came.Gone) ⊎ ((what : Content) × (o ≡ came.Got what))) }
     ensures faults { (o : Came Content) → (fetch_fault o ≡ Some unfetched.Fault) ↔ (o ≡ came.Fault) }
     ensures status { (why : FetchFault) → (fetch_status why ≡ status.GatewayTimeout) ↔ (why ≡ unfetched.Fault) }
 {}
 
-/// A request of a served stream whose head is refused asks nothing, and its answer says why, unless memory was wanted, which
+/// A request of a served stream whose head is refused asks nothing, and its answer says why, unless memory ran out, which
 /// is answered by a head alone only to HEAD, or a side of the stream failed. The input is told.
 pub fn refusals_are_answered<H: Held>()
     ensures { (settings : Settings) (last : Bool) (entries : List Entry) (old new : Outside) (ending : Option End) (input rest : List ℕ)
@@ -162,19 +162,19 @@ pub fn refusals_are_answered<H: Held>()
 {}
 
 /// Each course of a request that is not refused by its head comes to an answer of 200 or 201, or sends the file that it was
-/// lent, where each command gets what it asks for, no deed fails and the body is refused by nothing that it says; a pass over the
+/// lent, where each command gets what it asks for, no I/O action fails and the body is refused by nothing that it says; a pass over the
 /// repositories that are asked for is answered by what it did. Where the file has another content than was recorded, that is
-/// answered, or the stream ends behind a front of it. It invites the body where the client waits for that, and has read it then.
+/// answered, or the stream ends after a front of it. It invites the body where the client waits for that, and has read it then.
 pub fn courses_succeed()
     ensures { (request : Judged) (last : Bool) →
-        let duty = duty_of (Ok request) last in Succeeds duty.by_text duty.manner false (course_of (Ok request) last) duty.stand }
+        let duty = duty_of (Ok request) last in Succeeds duty.by_text duty.mode false (course_of (Ok request) last) duty.stand }
 {}
 
 /// A request of a served stream that nothing refuses, neither its head, nor a reply to its commands, nor what its body says, and
 /// whose body came whole, gets its answer of 200 or 201, whole, where no count of the stream and the blobs rose, unless the blob
-/// of a file, which tells no bytes, has others than were recorded, which is then answered, or ends the stream behind the head and
-/// a front of them, whole pieces of 65,536; or unless memory was wanted, by a command or for what is read or sent; then that is
-/// answered, by a head alone only to HEAD, behind a draft that was given up too. No more of the input is used than the head and
+/// of a file, which tells no bytes, has others than were recorded, which is then answered, or ends the stream after the head and
+/// a front of them, whole pieces of 65,536; or unless memory ran out, by a command or for what is read or sent; then that is
+/// answered, by a head alone only to HEAD, after a draft that was given up too. No more of the input is used than the head and
 /// the body. The input is told.
 pub fn granted_requests_are_answered<H: Held>()
     ensures { (settings : Settings) (last : Bool) (entries : List Entry) (old new : Outside) (ending : Option End) (input rest : List ℕ)
@@ -195,9 +195,9 @@ pub fn bodies_are_whole()
 
 /// Where no blob failed, and the records did not, a stream that is served alone has taken what is played from the machine's
 /// state, the input and what its fetches came to, up to some place: all of it, or up to where the source or the sink failed, by
-/// which it ended, or up to where memory was wanted. Its fetches are of the plans that its looks were answered, one for each, in
-/// their order; only the last plan may be left. Only the answer that says that memory was wanted may stand behind that place, or a
-/// front of it where the sink failed in it; it stands behind the whole answers of the requests before, and maybe `100 Continue`,
+/// which it ended, or up to where memory ran out. Its fetches are of the plans that its looks were answered, one for each, in
+/// their order; only the last plan may be left. Only the answer that says that memory ran out may stand after that place, or a
+/// front of it where the sink failed in it; it stands after the whole answers of the requests before, and maybe `100 Continue`,
 /// and is a head alone only where the next request is a HEAD. The blobs tell their bytes, and so do the files that stand there,
 /// the clock, the input and the output.
 pub fn broken_is_a_front<H: Held>()
@@ -211,7 +211,7 @@ pub fn broken_is_a_front<H: Held>()
 {}
 
 /// Where nothing failed, such a stream has taken exactly what is played, and ended as that does; or the whole answers of the
-/// first requests, maybe `100 Continue` of the next, and the answer that says that memory was wanted, its head alone only to
+/// first requests, maybe `100 Continue` of the next, and the answer that says that memory ran out, its head alone only to
 /// HEAD, and it was closed. Its fetches are of the plans of its looks, as above.
 pub fn faultless_is_played<H: Held>()
     ensures { (settings : Settings) → AllTell H.bytes →

@@ -13,7 +13,7 @@ use std::fs::{self, File, Files, OpenFile, OpenOptions};
 use std::io::{self, ErrorKind};
 
 // Makes a folder that is missing. Its name is kept before it returns: `..` of a folder is the one that has its name. So is
-// that of a folder which stood before, since an earlier run may have stopped right behind making it; but where the one above
+// that of a folder which stood before, since an earlier run may have stopped right after making it; but where the one above
 // may not be read, it was made by somebody else.
 fn make_folder<R: Files + AllocGlobal>(rt: &R, folder: &str) -> io::Result<()> {
     let is_new = match fs::create_dir(rt, folder) {

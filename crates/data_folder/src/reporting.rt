@@ -7,7 +7,7 @@ use std::io::Eprint;
 use std::marker::Model;
 
 /// A disk over another one, which says on standard error how many bytes each cut takes off, before it is made. A journal cuts
-/// what stands behind its last record, and nothing else. Where the line cannot be written the cut is made all the same. Where the
+/// what stands after its last record, and nothing else. Where the line cannot be written the cut is made all the same. Where the
 /// size is not known nothing is cut and nothing said, and the call fails. Contracts see the trace of the disk below, where it
 /// tells one, and how many of its calls have failed.
 #[derive(Drop)]

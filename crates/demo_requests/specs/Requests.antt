@@ -26,7 +26,7 @@ release a v = directory a ++ decimal v ++ codes ".0" ++ name a v ++ codes ".jar"
 abbrev pub snapshot : (a v : ℕ) → List ℕ
 snapshot a v = directory a ++ decimal v ++ codes ".0-SNAPSHOT"
 
--- one moment after another, each a second behind the last
+-- one moment after another, each a second after the last
 abbrev pub stamp : ℕ → List ℕ
 stamp i = text_of_time (civil_of (1709208000 + i))
 

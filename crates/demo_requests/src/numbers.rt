@@ -5,7 +5,7 @@ ghost use Rattle.demo_requests.specs.Numbers.{next};
 /// The numbers are those below this one.
 pub const NUMBERS: u64 = 65_537;
 
-/// The number behind this one.
+/// The number after this one.
 pub fn next_number(number: u64) -> u64
     requires { number < NUMBERS }
     ensures next { result ≡ next number }

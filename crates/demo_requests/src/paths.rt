@@ -1,4 +1,4 @@
-//! The paths of the requests, each pushed behind a text.
+//! The paths of the requests, each pushed after a text.
 ghost use Rattle.std.specs.Prelude.{◌≡◌, ◌≤◌, ◌+◌, ◌++◌, OnOk};
 ghost use Rattle.std.specs.Fmt.{decimal};
 ghost use Rattle.demo_requests.specs.Requests as spec;
@@ -27,7 +27,7 @@ pub(crate) fn push_directory(
     text.extend_from_slice(b"/")
 }
 
-/// The beginning of the names of a version's files, behind its directory.
+/// The beginning of the names of a version's files, after its directory.
 fn push_name(alloc: Global, text: &mut Vec<u8>, artifact: u64, version: u64) -> Result<(), NoMemory>
     ensures { OnOk result (text.new.items ≡ text.old.items ++ spec.name artifact version) }
 {
@@ -68,7 +68,7 @@ pub(crate) fn push_snapshot(
     text.extend_from_slice(b".0-SNAPSHOT")
 }
 
-/// A moment's text and a number, each behind a dash.
+/// A moment's text and a number, each after a dash.
 fn push_dashed(alloc: Global, text: &mut Vec<u8>, stamp: &[u8], number: u64) -> Result<(), NoMemory>
     ensures { OnOk result (text.new.items ≡ text.old.items ++ spec.dashed stamp.now number) }
 {
@@ -78,7 +78,7 @@ fn push_dashed(alloc: Global, text: &mut Vec<u8>, stamp: &[u8], number: u64) -> 
     push_number(alloc, text, number)
 }
 
-/// The build of a place: its moment, a second behind that of the place before it, and its number.
+/// The build of a place: its moment, a second after that of the place before it, and its number.
 fn push_build_text(alloc: Global, text: &mut Vec<u8>, place: u32) -> Result<(), NoMemory>
     ensures { OnOk result (text.new.items ≡ text.old.items ++ spec.build_text place) }
 {

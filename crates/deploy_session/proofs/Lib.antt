@@ -3,4 +3,4 @@ mod KnownLemmas
 mod SessionLaws
 mod RestartLemmas
 mod CommitLaws
-mod StopLaws
+mod CrashLaws

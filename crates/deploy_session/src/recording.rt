@@ -6,7 +6,7 @@ ghost use Rattle.repo_model.specs.Effect.{opens, sessions_after};
 ghost use Rattle.repo_model.specs.State.{is_open_at, change_first, number_end};
 ghost use Rattle.row_tables.specs.Commits.{tables_with};
 ghost use Rattle.row_tables.specs.Records.{HasCommitCause};
-ghost use Rattle.row_tables.specs.Stops.{HasCommitStop};
+ghost use Rattle.row_tables.specs.Crashes.{HasCommitCrash};
 ghost use Rattle.deploy_session.specs.Known.{is_drawn};
 ghost use Rattle.deploy_session.specs.Recording.{FitWhereTold};
 ghost use Rattle.deploy_session.specs.Shown.{shown_sessions};
@@ -63,7 +63,7 @@ pub fn begin<H: Held, K: Records>(
     ensures recorded { OnOk result (K.tables records.new ≡ tables_with (SessionOpened number ∷ []) (K.tables records.old)) }
     ensures untold { OnErr result (K.tables records.new ≡ K.tables records.old) }
     ensures cause { HasCommitCause (K.faults records.old) (K.faults records.new) result }
-    ensures stops { HasCommitStop (SessionOpened number ∷ []) (K.tables records.old) (K.unsettled records.old) (K.unsettled records.new) result }
+    ensures crashes { HasCommitCrash (SessionOpened number ∷ []) (K.tables records.old) (K.unsettled records.old) (K.unsettled records.new) result }
     ensures ready { K.ready records.new }
 {
     let repo = Text::new(alloc, repo)?;
@@ -100,7 +100,7 @@ pub fn give_up<H: Held, K: Records>(
     ensures recorded { OnOk result (K.tables records.new ≡ tables_with (SessionEnded number SessionResult.Aborted ∷ []) (K.tables records.old)) }
     ensures untold { OnErr result (K.tables records.new ≡ K.tables records.old) }
     ensures cause { HasCommitCause (K.faults records.old) (K.faults records.new) result }
-    ensures stops { HasCommitStop (SessionEnded number SessionResult.Aborted ∷ []) (K.tables records.old) (K.unsettled records.old) (K.unsettled records.new) result }
+    ensures crashes { HasCommitCrash (SessionEnded number SessionResult.Aborted ∷ []) (K.tables records.old) (K.unsettled records.old) (K.unsettled records.new) result }
     ensures ready { K.ready records.new }
 {
     let change = ended_change(alloc, number)?;

@@ -9,7 +9,7 @@ ghost use Rattle.repo_model.specs.Reply.{is_free, no_memory, staged};
 ghost use Rattle.repo_model.specs.Shown.{shown_parcel};
 ghost use Rattle.repo_model.specs.State.{is_open, is_open_at, is_session, number_end};
 ghost use Rattle.row_tables.specs.Commits.{tables_with};
-ghost use Rattle.row_tables.specs.Stops.{HasReplyStop};
+ghost use Rattle.row_tables.specs.Crashes.{HasReplyCrash};
 ghost use Rattle.row_tables.specs.Items.{is_file_path, is_number};
 ghost use Rattle.row_tables.specs.Recorded.{IsBuiltUp};
 ghost use Rattle.ordered_rows.specs.Rows.{rows_after_all};
@@ -94,8 +94,8 @@ impl<H: Held> Sessions<H> {
         ensures tables { let turn = begin_turn self.old repo.now in
             K.tables records.new ≡ (if is_free (shown_begin result) then K.tables records.old else tables_with (recorded turn.effects) (K.tables records.old)) }
         ensures cause { HasReplyCause (K.faults records.old) (K.faults records.new) (shown_begin result) }
-        ensures stops { let turn = begin_turn self.old repo.now in
-            HasReplyStop (recorded turn.effects) (K.tables records.old) (K.unsettled records.old) (K.unsettled records.new) (shown_begin result) }
+        ensures crashes { let turn = begin_turn self.old repo.now in
+            HasReplyCrash (recorded turn.effects) (K.tables records.old) (K.unsettled records.old) (K.unsettled records.new) (shown_begin result) }
         ensures ready { K.ready records.new }
     {
         if self.open_count >= MOST_SESSIONS {
@@ -127,8 +127,8 @@ impl<H: Held> Sessions<H> {
         ensures tables { let turn = abort_turn self.old session in
             K.tables records.new ≡ (if is_free (shown_abort result) then K.tables records.old else tables_with (recorded turn.effects) (K.tables records.old)) }
         ensures cause { HasReplyCause (K.faults records.old) (K.faults records.new) (shown_abort result) }
-        ensures stops { let turn = abort_turn self.old session in
-            HasReplyStop (recorded turn.effects) (K.tables records.old) (K.unsettled records.old) (K.unsettled records.new) (shown_abort result) }
+        ensures crashes { let turn = abort_turn self.old session in
+            HasReplyCrash (recorded turn.effects) (K.tables records.old) (K.unsettled records.old) (K.unsettled records.new) (shown_abort result) }
         ensures ready { K.ready records.new }
     {
         let Some(found) = known::session_of(&self.known, session) else {
@@ -176,8 +176,8 @@ impl<H: Held> Sessions<H> {
         ensures tables { let turn = commit_turn self.old session now hosted.old.rows in
             K.tables records.new ≡ (if is_free (shown_commit result) then K.tables records.old else tables_with (recorded turn.effects) (K.tables records.old)) }
         ensures cause { HasReplyCause (K.faults records.old) (K.faults records.new) (shown_commit result) }
-        ensures stops { let turn = commit_turn self.old session now hosted.old.rows in
-            HasReplyStop (recorded turn.effects) (K.tables records.old) (K.unsettled records.old) (K.unsettled records.new) (shown_commit result) }
+        ensures crashes { let turn = commit_turn self.old session now hosted.old.rows in
+            HasReplyCrash (recorded turn.effects) (K.tables records.old) (K.unsettled records.old) (K.unsettled records.new) (shown_commit result) }
         ensures ready { K.ready records.new }
     {
         let Some(found) = known::session_of(&self.known, session) else {

@@ -5,7 +5,7 @@ use Rattle.repo_model.specs.History.{Entry}
 use Rattle.repo_model.specs.Settings.{Settings}
 use Rattle.repo_laws.specs.Laws.{AnyByRecursion}
 use Rattle.repo_course.specs.Cleaning.{Store}
-use Rattle.run_desks.specs.Seen.{Floor, Kit, Looks}
+use Rattle.run_desks.specs.Seen.{RunResources, DeskResources, Looks}
 use Rattle.turn_lock.specs.declared.view.Entry.{Entry as Call}
 use Rattle.turn_lock.specs.declared.turns.Turns.{Turns}
 use Rattle.turn_lock.specs.declared.seat.SeatToken.{SeatToken as Seat}
@@ -52,12 +52,12 @@ module _ {T C R : Type 0} (as_entry : Call C R T → Entry) where
 
 -- what holds of the entries of a desk's connections and of the cleaner's passes holds of each caller's entries
 module _ {L P D T C R : Type 0} (looks : Looks L P D) (settings : Settings) (rules : Rules T C R) (turns : Turns T C R) (first : Seat C R T)
-    (old new : Floor (List D)) (thing : T) (calls : ℕ) (failed : Bool) (works : Works looks rules settings turns first old new thing calls failed)
+    (old new : RunResources (List D)) (thing : T) (calls : ℕ) (failed : Bool) (works : Works looks rules settings turns first old new thing calls failed)
     (alone : mine first ≡ []) (apart : joined first ≡ []) (Q : List Entry → Type 0) (none : Q []) where
   abbrev pub Own : ℕ → List Entry
   Own k = OwnOf (entry_of rules.sight) k works.ended.log
 
-  pub each-caller : ((k : ℕ) (before after : Kit) (visits : List (Visit L)) → Attends looks settings before visits after → entries_of visits ≡ Own k → Q (entries_of visits))
+  pub each-caller : ((k : ℕ) (before after : DeskResources) (visits : List (Visit L)) → Attends looks settings before visits after → entries_of visits ≡ Own k → Q (entries_of visits))
       → ((k : ℕ) (before after : Store) (passages : List Passage) → PassesThrough settings before passages after → entries_in passages ≡ Own k → Q (entries_in passages))
       → (k : ℕ) → Q (Own k)
   each-caller of_visits of_passes k =
@@ -65,7 +65,7 @@ module _ {L P D T C R : Type 0} (looks : Looks L P D) (settings : Settings) (rul
       elim (works.ended.nobody_else k) [
         | inl one ↦
             caller-so looks settings rules turns first alone apart (rules.sight.settings (opening turns)) works.ended.log fit k (λ ds os. Q (Own k))
-            (λ d o ds os it is. subst Q is (of_visits k (looks.kit d) (looks.kit o.1.0) it.2.0.visits it.2.0.attends is)) (λ d o ds os so. so)
+            (λ d o ds os it is. subst Q is (of_visits k (looks.resources d) (looks.resources o.1.0) it.2.0.visits it.2.0.attends is)) (λ d o ds os so. so)
             old.desks works.outs works.done works.ended.rest works.cleaning old.cleaner new.cleaner works.cleaned works.ended.first one
             (λ is. subst Q is (of_passes k old.cleaner.blobs new.cleaner.blobs works.cleaned.2.passages works.cleaned.2.passes is))
         | inr nobody ↦ subst (λ (cs : List (Call C R T)). Q (map (entry_of rules.sight) cs)) (sym nobody.1) none

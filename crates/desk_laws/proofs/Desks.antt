@@ -7,7 +7,7 @@ use Rattle.repo_model.specs.Settings.{Settings}
 use Rattle.repo_model.specs.State.{State}
 use Rattle.repo_course.specs.Serving.{Outside, ServesStream}
 use Rattle.repo_course.specs.declared.outcomes.End.{End}
-use Rattle.run_desks.specs.Seen.{Kit, Looks}
+use Rattle.run_desks.specs.Seen.{DeskResources, Looks}
 use Rattle.turn_lock.specs.declared.view.Entry.{Entry as Call}
 use Rattle.turn_lock.specs.declared.turns.Turns.{Turns}
 use Rattle.turn_lock.specs.declared.seat.SeatToken.{SeatToken as Seat}
@@ -43,7 +43,7 @@ module _ (settings : Settings) (start : State) (history : List Mark) (legal : Le
       let it = stream-answered settings tells start history legal 1000 past entries rest old new ending own serves in
       record { turns = it.turns; are = it.are; answered = it.answered }
 
-  visits-answered : {L P D : Type 0} (looks : Looks L P D) (past : List Entry) (before after : Kit) (visits : List (Visit L)) → own_of history ≡ past ++ entries_of visits
+  visits-answered : {L P D : Type 0} (looks : Looks L P D) (past : List Entry) (before after : DeskResources) (visits : List (Visit L)) → own_of history ≡ past ++ entries_of visits
       → Attends looks settings before visits after → VisitsAnswered settings start history looks past before visits
   visits-answered looks past before after [] own attends = tt
   visits-answered looks past before after (v ∷ vs) own attends = (
@@ -67,8 +67,8 @@ module _ {L P D T C R : Type 0} (looks : Looks L P D) (settings : Settings) (rul
         came = did.came;
         went = did.went;
         own = mine;
-        answered = visits-answered settings start (marked_by rules.sight k log) (subst (Legal settings start) (sym (marked-entries rules.sight k log)) legal) looks [] (looks.kit desk)
-            (looks.kit out.1.0) did.visits mine did.attends;
+        answered = visits-answered settings start (marked_by rules.sight k log) (subst (Legal settings start) (sym (marked-entries rules.sight k log)) legal) looks [] (looks.resources desk)
+            (looks.resources out.1.0) did.visits mine did.attends;
       }
 
   pub desks-answered : (desks : List D) (outs : List (Seat C R T × (D × Bool))) → AllZip (DeskDone looks rules settings turns first) desks outs

@@ -24,9 +24,9 @@ abbrev pub GiveOnce : List Entry → Type 0
 GiveOnce [] = Unit {0}
 GiveOnce (e ∷ entries) = ((n : ℕ) → GivesDraft n e.reply → AnyGives n entries → ⊥) × GiveOnce entries
 
-pub once-behind : (xs ys : List Entry) → GiveOnce (xs ++ ys) → GiveOnce ys
-once-behind [] ys once = once
-once-behind (x ∷ xs) ys once = once-behind xs ys once.1
+pub once-after : (xs ys : List Entry) → GiveOnce (xs ++ ys) → GiveOnce ys
+once-after [] ys once = once
+once-after (x ∷ xs) ys once = once-after xs ys once.1
 
 pub once-front : (xs ys : List Entry) → GiveOnce (xs ++ ys) → GiveOnce xs
 once-front [] ys once = tt
@@ -39,7 +39,7 @@ given-apart n (x ∷ xs) ys once (inl here) later = once.0 n here (any-right _ x
 given-apart n (x ∷ xs) ys once (inr first) later = given-apart n xs ys once.1 first later
 
 module _ (settings : Settings) where
-  -- the draft that is given is the next number, and behind it the next one is greater
+  -- the draft that is given is the next number, and after it the next one is greater
   case-next : (s : State) (now faults n : ℕ) (c : Command) (u : Turn) → Case settings s now c u → GivesDraft n u.reply
       → (s.yard.next_draft ≡ n) × ((with_effects (ticked s now faults) u.effects).yard.next_draft ≡ n + 1)
   case-next s now faults n c u (gives_draft place path more) is = (is, ap (λ (k : ℕ). k + 1) is)

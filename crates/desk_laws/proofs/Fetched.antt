@@ -19,7 +19,7 @@ use Rattle.course_laws.proofs.Landed.{all-later, serves-lands}
 use Rattle.course_laws.proofs.Origins.{landed-came}
 use Rattle.course_laws.proofs.Passes.{ArePass, IsPassCommand, passes-ask}
 use Rattle.course_laws.proofs.Remotes.{goes-on, goes-then, serves-go}
-use Rattle.run_desks.specs.Seen.{Floor, Kit, Looks}
+use Rattle.run_desks.specs.Seen.{RunResources, DeskResources, Looks}
 use Rattle.turn_lock.specs.declared.view.Entry.{Entry as Call}
 use Rattle.turn_lock.specs.declared.turns.Turns.{Turns}
 use Rattle.turn_lock.specs.declared.seat.SeatToken.{SeatToken as Seat}
@@ -58,12 +58,12 @@ module _ (id path : List ℕ) (blob : Blob) where
 
 -- what a desk lands it fetched
 module _ {L P D : Type 0} (looks : Looks L P D) (settings : Settings) where
-  visits-go : (before after : Kit) (visits : List (Visit L)) → Attends looks settings before visits after → GoesOn before.remote after.remote
-  visits-go before after [] attends = subst (λ (k : Kit). GoesOn before.remote k.remote) (sym attends) (goes-on before.remote)
+  visits-go : (before after : DeskResources) (visits : List (Visit L)) → Attends looks settings before visits after → GoesOn before.remote after.remote
+  visits-go before after [] attends = subst (λ (k : DeskResources). GoesOn before.remote k.remote) (sym attends) (goes-on before.remote)
   visits-go before after (v ∷ vs) attends =
       goes-then before.remote v.left.remote after.remote (serves-go looks.tells settings 1000 v.entries _ _ v.ending attends.0) (visits-go v.left after vs attends.1)
 
-  visits-land : (first : Sees) (before after : Kit) (visits : List (Visit L)) → GoesOn first before.remote → Attends looks settings before visits after
+  visits-land : (first : Sees) (before after : DeskResources) (visits : List (Visit L)) → GoesOn first before.remote → Attends looks settings before visits after
       → AllLandWhatCame first after.remote (entries_of visits)
   visits-land first before after [] since attends = tt
   visits-land first before after (v ∷ vs) since attends =
@@ -75,7 +75,7 @@ module _ {L P D : Type 0} (looks : Looks L P D) (settings : Settings) where
 
 -- so it is of each caller of a server
 module _ {L P D T C R : Type 0} (looks : Looks L P D) (settings : Settings) (rules : Rules T C R) where
-  pub works-fetch : (turns : Turns T C R) (first : Seat C R T) (old new : Floor (List D)) (thing : T) (calls : ℕ) (failed : Bool)
+  pub works-fetch : (turns : Turns T C R) (first : Seat C R T) (old new : RunResources (List D)) (thing : T) (calls : ℕ) (failed : Bool)
       → (works : Works looks rules settings turns first old new thing calls failed) → mine first ≡ [] → joined first ≡ []
       → AreFilesFetched looks (rules.sight.settings (opening turns)) (rules.sight.state (opening turns)) (map (entry_of rules.sight) works.ended.log) old.desks new.desks
   works-fetch turns first old new thing calls failed works alone apart before later e id path tried lease blob parts looks_at gives =
@@ -101,8 +101,8 @@ module _ {L P D T C R : Type 0} (looks : Looks L P D) (settings : Settings) (rul
             | inl sum ↦
                 caller-so looks settings rules turns first alone apart under log fit k (λ ds os. FetchedAtDesks looks ds (map (λ (out : Seat C R T × (D × Bool)). out.1.0) os) one path blob)
                 (λ d o ds os it is.
-                inl (landed-came (looks.kit d).remote (looks.kit o.1.0).remote one path blob (entries_of it.2.0.visits)
-                (visits-land looks settings (looks.kit d).remote (looks.kit d) (looks.kit o.1.0) it.2.0.visits (goes-on (looks.kit d).remote) it.2.0.attends)
+                inl (landed-came (looks.resources d).remote (looks.resources o.1.0).remote one path blob (entries_of it.2.0.visits)
+                (visits-land looks settings (looks.resources d).remote (looks.resources d) (looks.resources o.1.0) it.2.0.visits (goes-on (looks.resources d).remote) it.2.0.attends)
                 (subst (AnyByRecursion (LandsFile one path blob)) (sym is) lands)))
                 (λ d o ds os later. inr later) old.desks works.outs works.done works.ended.rest works.cleaning old.cleaner new.cleaner works.cleaned works.ended.first sum
                 (λ is.

@@ -12,8 +12,8 @@ use Rattle.repo_course.specs.Serving.{Outside, ServesStream}
 use Rattle.repo_course.specs.declared.outcomes.End.{End}
 use Rattle.course_laws.proofs.Alls.{all-joined}
 use Rattle.course_laws.proofs.Passes.{ArePass, passes-ask}
-use Rattle.run_desks.specs.Seen.{Floor, Kit, Looks}
-use Rattle.stop_laws.specs.Handed.{AllHandTold, AnyHands, HandOnce, HandsNumber, HandsTold}
+use Rattle.run_desks.specs.Seen.{RunResources, DeskResources, Looks}
+use Rattle.crash_laws.specs.Handed.{AllHandTold, AnyHands, HandOnce, HandsNumber, HandsTold}
 use Rattle.turn_lock.specs.declared.view.Entry.{Entry as Call}
 use Rattle.turn_lock.specs.declared.turns.Turns.{Turns}
 use Rattle.turn_lock.specs.declared.seat.SeatToken.{SeatToken as Seat}
@@ -25,7 +25,7 @@ use Rattle.desk_work.specs.Visits.{Attends, Visit, entries_of}
 use Rattle.seat_server.specs.Rules.{Rules}
 use Rattle.desk_work.specs.Working.{Works}
 use Rattle.desk_laws.proofs.Callers.{OwnOf, any-who, all-whole, each-caller, first-by, kept-by}
-use Rattle.desk_laws.proofs.Drawn.{AnyGives, GiveOnce, given-above, given-once, once-behind, once-front}
+use Rattle.desk_laws.proofs.Drawn.{AnyGives, GiveOnce, given-above, given-once, once-after, once-front}
 use Rattle.desk_laws.proofs.Fitting.{FitsOne, all-cut}
 use Rattle.desk_laws.proofs.Handing.{Hand, both-hand, none-hand, pass-hand, serves-hand}
 use Rattle.desk_laws.proofs.Servers.{all-by, all-fit, any-by, is-itself}
@@ -90,18 +90,18 @@ told-pass [] pass = tt
 told-pass (e ∷ entries) pass = (of_pass e.command pass.0, told-pass entries pass.1)
 
 module _ {L P D : Type 0} (looks : Looks L P D) (settings : Settings) where
-  visits-told : looks.tells → (before after : Kit) (visits : List (Visit L)) → Attends looks settings before visits after → AllHandTold (entries_of visits)
+  visits-told : looks.tells → (before after : DeskResources) (visits : List (Visit L)) → Attends looks settings before visits after → AllHandTold (entries_of visits)
   visits-told tell before after [] attends = tt
   visits-told tell before after (v ∷ vs) attends =
       all-joined (λ (e : Entry). HandsTold e.command) v.entries (entries_of vs) (serves-told looks.tells tell settings 1000 v.entries _ _ v.ending attends.0) (visits-told tell v.left after vs attends.1)
 
-  visits-hand : (under : Settings) (before after : Kit) (visits : List (Visit L)) → AllByRecursion (FitsOne under) (entries_of visits) → GiveOnce (entries_of visits)
+  visits-hand : (under : Settings) (before after : DeskResources) (visits : List (Visit L)) → AllByRecursion (FitsOne under) (entries_of visits) → GiveOnce (entries_of visits)
       → Attends looks settings before visits after → Hand (entries_of visits)
   visits-hand under before after [] fits given attends = none-hand
   visits-hand under before after (v ∷ vs) fits given attends =
       let parts = all-cut (FitsOne under) v.entries (entries_of vs) fits in
       both-hand v.entries (entries_of vs) given (serves-hand under settings looks.tells 1000 v.entries _ _ v.ending parts.0 (once-front v.entries (entries_of vs) given) attends.0)
-      (visits-hand under v.left after vs parts.1 (once-behind v.entries (entries_of vs) given) attends.1)
+      (visits-hand under v.left after vs parts.1 (once-after v.entries (entries_of vs) given) attends.1)
 
 passes-told : (settings : Settings) (before after : Store) (passages : List Passage) → PassesThrough settings before passages after → AllHandTold (entries_in passages)
 passes-told settings before after [] through = tt
@@ -115,7 +115,7 @@ passes-pass settings before after (p ∷ ps) through =
     all-joined _ p.entries (entries_in ps) (passes-ask _ p.entries before p.left p.result through.0) (passes-pass settings p.left after ps through.1)
 
 module _ {L P D T C R : Type 0} (looks : Looks L P D) (settings : Settings) (rules : Rules T C R) where
-  module _ (turns : Turns T C R) (first : Seat C R T) (old new : Floor (List D)) (thing : T) (calls : ℕ) (failed : Bool)
+  module _ (turns : Turns T C R) (first : Seat C R T) (old new : RunResources (List D)) (thing : T) (calls : ℕ) (failed : Bool)
       (works : Works looks rules settings turns first old new thing calls failed) (alone : mine first ≡ []) (apart : joined first ≡ []) where
     abbrev log : List (Call C R T)
     log = works.ended.log

@@ -24,15 +24,15 @@ use Rattle.repo_routes.specs.Judge.{judge}
 use Rattle.repo_routes.specs.Intent.{Judged}
 use Rattle.repo_routes.specs.declared.judging.Refused.{Refused}
 use Rattle.repo_course.specs.Course.{Close, Course, asks, does, says, stops}
-use Rattle.repo_course.specs.declared.manner.Manner.{Manner}
+use Rattle.repo_course.specs.declared.mode.ResponseMode.{ResponseMode}
 use Rattle.repo_course.specs.declared.outcomes.End.{End}
 use Rattle.repo_course.specs.Serving.{Follows, Opens, clean, torn, failed, refused, unread_head, starved, served, Outside, ServesStream, RequestTurn}
 use Rattle.course_laws.specs.Duties.{Keeps, MayAsk, Stand, draft_after, due_after, duty_of, left_by, spends_draft, stand_after, stand_done}
 use Rattle.course_laws.proofs.Kept.{duty_at, opens-keeps}
-use Rattle.course_laws.proofs.Passes.{ArePass, IsPassCommand, deed-asks}
+use Rattle.course_laws.proofs.Passes.{ArePass, IsPassCommand, action-asks}
 use Rattle.course_laws.proofs.PutBodies.{undue}
-use Rattle.stop_laws.specs.Handed.{AnyHands, HandOnce, HandsNumber, handed}
-use Rattle.desk_laws.proofs.Drawn.{AnyGives, GiveOnce, given-apart, once-behind, once-front}
+use Rattle.crash_laws.specs.Handed.{AnyHands, HandOnce, HandsNumber, handed}
+use Rattle.desk_laws.proofs.Drawn.{AnyGives, GiveOnce, given-apart, once-after, once-front}
 use Rattle.desk_laws.proofs.Fitting.{FitsOne, all-cut, any-cut, any-left, any-right}
 
 -- ---- the draft under which a command hands its blob over
@@ -62,7 +62,7 @@ handing settings (land plan (came.Got (got_file blob))) s n met may hands =
     (may.0.0, may.2 ∙ under ∙ hands)
 handing settings command s n met may hands = absurd (none-some n hands)
 
--- behind it an end is due, or no draft is held
+-- after it an end is due, or no draft is held
 handed-over : (command : Command) (reply : Reply) (s : Stand) (n : ℕ) → HandsNumber n command → due_after s.rounds command reply s.due ≡ None → draft_after command reply s.draft ≡ None
 handed-over (put repo path m blob) reply s n hands none = absurd (cc)
 handed-over (stage at path m blob) reply s n hands none = absurd (cc)
@@ -70,7 +70,7 @@ handed-over (land plan (came.Got (got_file blob))) landed s n hands none = refl
 handed-over (land plan (came.Got (got_file blob))) reply s n hands none = absurd (cc)
 handed-over command reply s n hands none = absurd (none-some n hands)
 
--- a draft that is held behind a reply was held before it, or is given by it
+-- a draft that is held after a reply was held before it, or is given by it
 spent-or-held : (b : Bool) (n : ℕ) (held : Option ℕ) → (if b then None else held) ≡ Some n → held ≡ Some n
 spent-or-held true n held is = absurd (none-some n is)
 spent-or-held false n held is = is
@@ -131,7 +131,7 @@ record Hands (s : Stand) (entries : List Entry) : Type 0 where
   once : HandOnce entries
   own : (n : ℕ) → AnyHands n entries → (s.due ≡ None) × ((s.draft ≡ Some n) ⊎ AnyGives n entries)
 
-module _ (under : Settings) (tells : Type 0) (by_text : List ℕ → Option Close) (manner : Manner) where
+module _ (under : Settings) (tells : Type 0) (by_text : List ℕ → Option Close) (mode : ResponseMode) where
   abbrev AreFresh : Stand → List Entry → Type 0
   AreFresh s entries = (n : ℕ) → s.draft ≡ Some n → AnyGives n entries → ⊥
 
@@ -161,26 +161,26 @@ module _ (under : Settings) (tells : Type 0) (by_text : List ℕ → Option Clos
     ];
   }
 
-  follows-hand : (c : Course) (m : ℕ) (s : Stand) → Keeps by_text manner c m s → (entries : List Entry) (old new : Outside) (end : Option End) → AllByRecursion (FitsOne under) entries
+  follows-hand : (c : Course) (m : ℕ) (s : Stand) → Keeps by_text mode c m s → (entries : List Entry) (old new : Outside) (end : Option End) → AllByRecursion (FitsOne under) entries
       → GiveOnce entries → AreFresh s entries → Follows tells c entries old new end → Hands s entries
   follows-hand (asks command next) zero s k [] old new end fits given fresh f = absurd f
   follows-hand (asks command next) zero s k (e ∷ entries) old new end fits given fresh f = absurd k
   follows-hand (asks command next) (suc m) s k [] old new end fits given fresh f = absurd f
   follows-hand (asks command next) (suc m) s k (e ∷ entries) old new end fits given fresh f =
       let may : MayAsk e.command s = subst (λ (c : Command). MayAsk c s) (sym f.0) k.0 in
-      let kept : Keeps by_text manner (next e.reply) m (stand_after e.command e.reply s) =
-      subst (λ (c : Command). Keeps by_text manner (next e.reply) m (stand_after c e.reply s)) (sym f.0) (k.1 e.reply) in
+      let kept : Keeps by_text mode (next e.reply) m (stand_after e.command e.reply s) =
+      subst (λ (c : Command). Keeps by_text mode (next e.reply) m (stand_after c e.reply s)) (sym f.0) (k.1 e.reply) in
       step-hands e s entries fits.0 may given fresh
       (follows-hand (next e.reply) m (stand_after e.command e.reply s) kept entries old new end fits.1 given.1
       (λ n held any. elim (draft-from e.command e.reply s.draft n held) [ inl was ↦ fresh n was (inr any) | inr gives ↦ given.0 n gives any ]) f.1)
-  follows-hand (does deed next) m s k entries old new end fits given fresh f =
+  follows-hand (does io_action next) m s k entries old new end fits given fresh f =
       let mine = f.1 in
       let later = f.2 in
-      let pass = deed-asks tells deed f.0 mine old f.3 f.5 in
+      let pass = action-asks tells io_action f.0 mine old f.3 f.5 in
       let given_so : GiveOnce (mine ++ later) = subst GiveOnce f.4 given in
       let rest =
-      follows-hand (next f.0) (left_by deed m) (stand_done by_text deed f.0 s) (k.2 f.0) later f.3 new end (all-cut (FitsOne under) mine later (subst (AllByRecursion (FitsOne under)) f.4 fits)).1
-      (once-behind mine later given_so) (λ n held any. fresh n held (subst (AnyGives n) (sym f.4) (any-right _ mine later any))) f.6 in
+      follows-hand (next f.0) (left_by io_action m) (stand_done by_text io_action f.0 s) (k.2 f.0) later f.3 new end (all-cut (FitsOne under) mine later (subst (AllByRecursion (FitsOne under)) f.4 fits)).1
+      (once-after mine later given_so) (λ n held any. fresh n held (subst (AnyGives n) (sym f.4) (any-right _ mine later any))) f.6 in
       subst (Hands s) (sym f.4)
       (record {
         once = once-both mine later (λ n one two. passes-hand n mine pass one) (passes-once mine pass) rest.once;
@@ -212,7 +212,7 @@ module _ (under settings : Settings) (tells : Type 0) where
   turn-hand last entries old new end fits given (c, mid, o, f) =
       let none = bare settings last old mid c o in
       let it =
-      follows-hand under tells (duty_at o).by_text (duty_at o).manner c (duty_at o).most (duty_at o).stand (opens-keeps settings last old mid c o) entries mid new end fits given
+      follows-hand under tells (duty_at o).by_text (duty_at o).mode c (duty_at o).most (duty_at o).stand (opens-keeps settings last old mid c o) entries mid new end fits given
       (λ n held any. none-some n (sym none ∙ held)) f in
       record {
         once = it.once;
@@ -229,4 +229,4 @@ module _ (under settings : Settings) (tells : Type 0) where
       let given_so : GiveOnce (t.0 ++ t.1) = subst GiveOnce t.3 given in
       subst Hand (sym t.3)
       (both-hand t.0 t.1 given_so (turn-hand (left == 0) t.0 old t.2 None parts.0 (once-front t.0 t.1 given_so) t.4)
-      (serves-hand left t.1 t.2 new end parts.1 (once-behind t.0 t.1 given_so) t.5))
+      (serves-hand left t.1 t.2 new end parts.1 (once-after t.0 t.1 given_so) t.5))

@@ -18,7 +18,7 @@ use Rattle.repo_laws.specs.Replies.{GivesDraft, spends}
 use Rattle.naming_laws.specs.Left.{IsDraftLeft, IsLeaseLeft}
 use Rattle.naming_laws.proofs.Left.{draft-left, lease-left}
 use Rattle.repo_course.specs.Cleaning.{Store}
-use Rattle.run_desks.specs.Seen.{Broom, Floor, Kit, Looks}
+use Rattle.run_desks.specs.Seen.{CleanerResources, RunResources, DeskResources, Looks}
 use Rattle.turn_lock.specs.declared.view.Entry.{Entry as Call}
 use Rattle.turn_lock.specs.declared.turns.Turns.{Turns}
 use Rattle.turn_lock.specs.declared.seat.SeatToken.{SeatToken as Seat}
@@ -56,7 +56,7 @@ module _ {T C R : Type 0} (as_entry : Call C R T → Entry) where
   pub is-itself : (n : ℕ) → (n == n) ≡ true
   is-itself n = eq-eqb n n refl
 
-  -- behind its first entry each caller's entries do too
+  -- after its first entry each caller's entries do too
   tail-back : (c : Call C R T) (log : List (Call C R T)) (k : ℕ) (b : Bool) → GiveAllBack (map as_entry (cond b (c ∷ entries_by k log) (entries_by k log)))
       → GiveAllBack (map as_entry (entries_by k log))
   tail-back c log k true back = record { drafts = back.drafts.1; leases = back.leases.1 }
@@ -126,7 +126,7 @@ module _ {L P D T C R : Type 0} (looks : Looks L P D) (settings : Settings) (rul
   fit-by : (k : ℕ) (entries : List Entry) → entries ≡ map (entry_of rules.sight) (entries_by k log) → AllByRecursion (FitsOne under) entries
   fit-by k entries is = subst (AllByRecursion (FitsOne under)) (sym is) (all-by (entry_of rules.sight) (FitsOne under) k log fit)
 
-  visits-back : (before after : Kit) (visits : List (Visit L)) → Attends looks settings before visits after → AllByRecursion (FitsOne under) (entries_of visits)
+  visits-back : (before after : DeskResources) (visits : List (Visit L)) → Attends looks settings before visits after → AllByRecursion (FitsOne under) (entries_of visits)
       → GiveAllBack (entries_of visits)
   visits-back before after [] attends fits = none-back
   visits-back before after (v ∷ vs) attends fits =
@@ -158,7 +158,7 @@ module _ {L P D T C R : Type 0} (looks : Looks L P D) (settings : Settings) (rul
           inr (did.gained.entries_are ∙ ap (map (entry_of rules.sight)) calls)
 
   -- or they are the cleaner's
-  cleaner-entries : (new : Seat C R T) (before after : Broom) (cleaned : CleanedBeside rules settings turns first new before after) → HoldsSeat log new → (k : ℕ)
+  cleaner-entries : (new : Seat C R T) (before after : CleanerResources) (cleaned : CleanedBeside rules settings turns first new before after) → HoldsSeat log new → (k : ℕ)
       → (times_in k new ≡ 0) ⊎ (entries_in cleaned.2.passages ≡ Entries k)
   cleaner-entries new before after (handed, same, kept) holds k = pick (own-of new (kept.gained.stays.1 ∙ same.3 ∙ apart) holds k)
     where
@@ -168,7 +168,7 @@ module _ {L P D T C R : Type 0} (looks : Looks L P D) (settings : Settings) (rul
           let calls : kept.gained.calls ≡ entries_by k log = ap (λ (cs : List (Call C R T)). cs ++ kept.gained.calls) (sym (same.2 ∙ alone)) ∙ sym kept.gained.mine_are ∙ is in
           inr (kept.gained.entries_are ∙ ap (map (entry_of rules.sight)) calls)
 
-  -- what holds where the caller's entries are the first desk's, and where it holds of the desks behind that, holds of all
+  -- what holds where the caller's entries are the first desk's, and where it holds of the desks after that, holds of all
   module _ (k : ℕ) (Q : List D → List Out → Type 0)
       (here : (d : D) (o : Out) (ds : List D) (os : List Out) (it : DeskDone looks rules settings turns first d o) → entries_of it.2.0.visits ≡ Entries k → Q (d ∷ ds) (o ∷ os))
       (more : (d : D) (o : Out) (ds : List D) (os : List Out) → Q ds os → Q (d ∷ ds) (o ∷ os)) where
@@ -188,7 +188,7 @@ module _ {L P D T C R : Type 0} (looks : Looks L P D) (settings : Settings) (rul
         ]
 
     pub caller-so : (desks : List D) (outs : List Out) → AllZip (DeskDone looks rules settings turns first) desks outs → All (HoldsSeat log) (map (λ (out : Out). out.0) outs)
-        → (new : Seat C R T) (before after : Broom) (cleaned : CleanedBeside rules settings turns first new before after) → HoldsSeat log new
+        → (new : Seat C R T) (before after : CleanerResources) (cleaned : CleanedBeside rules settings turns first new before after) → HoldsSeat log new
         → times_in k new + sum_by (times_in k) (map (λ (out : Out). out.0) outs) ≡ 1 → (entries_in cleaned.2.passages ≡ Entries k → Q desks outs) → Q desks outs
     caller-so desks outs served held new before after cleaned holds one cleaner =
         elim (cleaner-entries new before after cleaned holds k) [
@@ -202,7 +202,7 @@ all-fit settings s [] legal = tt
 all-fit settings s (e ∷ es) legal = ((s, legal.0), all-fit settings (machine.after settings s e) es legal.1)
 
 module _ {L P D T C R : Type 0} (looks : Looks L P D) (settings : Settings) (rules : Rules T C R) where
-  pub works-leave-nothing : (turns : Turns T C R) (first : Seat C R T) (old new : Floor (List D)) (thing : T) (calls : ℕ) (failed : Bool)
+  pub works-leave-nothing : (turns : Turns T C R) (first : Seat C R T) (old new : RunResources (List D)) (thing : T) (calls : ℕ) (failed : Bool)
       → Works looks rules settings turns first old new thing calls failed
       → mine first ≡ [] → joined first ≡ [] → (rules.sight.state (opening turns)).yard.drafts ≡ [] → (rules.sight.state (opening turns)).yard.leases ≡ []
       → ((rules.sight.state thing).yard.drafts ≡ []) × ((rules.sight.state thing).yard.leases ≡ [])
@@ -226,7 +226,7 @@ module _ {L P D T C R : Type 0} (looks : Looks L P D) (settings : Settings) (rul
                 caller-so looks settings rules turns first alone apart under log fit k (λ ds os. GiveAllBack (map (entry_of rules.sight) (entries_by k log)))
                 (λ d o ds os it is.
                 subst GiveAllBack is
-                (visits-back looks settings rules turns first alone apart under log fit (looks.kit d) (looks.kit o.1.0) it.2.0.visits it.2.0.attends
+                (visits-back looks settings rules turns first alone apart under log fit (looks.resources d) (looks.resources o.1.0) it.2.0.visits it.2.0.attends
                 (fit-by looks settings rules turns first alone apart under log fit k (entries_of it.2.0.visits) is)))
                 (λ d o ds os back. back) old.desks works.outs works.done works.ended.rest works.cleaning old.cleaner new.cleaner works.cleaned works.ended.first one
                 (λ is.

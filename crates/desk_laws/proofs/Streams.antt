@@ -12,12 +12,12 @@ use Rattle.repo_laws.specs.Laws.{AnyByRecursion}
 use Rattle.repo_laws.specs.Replies.{GivesDraft, is_under, leaves_drafts, spends, uses_draft}
 use Rattle.repo_laws.proofs.Drafts.{draft-dropped}
 use Rattle.repo_course.specs.Course.{Close, Course, asks, does, says, stops}
-use Rattle.repo_course.specs.declared.manner.Manner.{Manner}
+use Rattle.repo_course.specs.declared.mode.ResponseMode.{ResponseMode}
 use Rattle.repo_course.specs.declared.outcomes.End.{End}
 use Rattle.repo_course.specs.Serving.{Follows, Outside, ServesStream, RequestTurn}
 use Rattle.course_laws.specs.Duties.{HoldsNothing, Keeps, MayAsk, Stand, draft_after, lease_after, left_by, spends_draft, stand_after, stand_done}
 use Rattle.course_laws.proofs.Kept.{duty_at, opens-keeps}
-use Rattle.course_laws.proofs.Passes.{deed-asks}
+use Rattle.course_laws.proofs.Passes.{action-asks}
 use Rattle.desk_laws.specs.Back.{GiveAllBack}
 use Rattle.desk_laws.proofs.Fitting.{FitsOne, all-cut, any-right, both-back, draft-by, file-by, none-back, pass-back}
 
@@ -107,8 +107,8 @@ module _ (settings : Settings) where
     };
   }
 
-  module _ (tells : Type 0) (by_text : List ℕ → Option Close) (manner : Manner) where
-    follows-owing : (c : Course) (n : ℕ) (s : Stand) → Keeps by_text manner c n s → (entries : List Entry) → AllByRecursion (FitsOne settings) entries
+  module _ (tells : Type 0) (by_text : List ℕ → Option Close) (mode : ResponseMode) where
+    follows-owing : (c : Course) (n : ℕ) (s : Stand) → Keeps by_text mode c n s → (entries : List Entry) → AllByRecursion (FitsOne settings) entries
         → (old new : Outside) (end : Option End) → Follows tells c entries old new end → Owing s entries
     follows-owing (asks command next) zero s k [] fit old new end f = absurd f
     follows-owing (asks command next) zero s k (e ∷ es) fit old new end f = absurd k
@@ -116,14 +116,14 @@ module _ (settings : Settings) where
     follows-owing (asks command next) (suc n) s k (e ∷ es) fit old new end f =
         let rest = follows-owing (next e.reply) n (stand_after command e.reply s) (k.1 e.reply) es fit.1 old new end f.1 in
         owing-more s e es fit.0 (subst (λ c. MayAsk c s) (sym f.0) k.0) (subst (λ c. Owing (stand_after c e.reply s) es) (sym f.0) rest)
-    follows-owing (does deed next) n s k entries fit old new end f =
+    follows-owing (does io_action next) n s k entries fit old new end f =
         let cut = all-cut (FitsOne settings) f.1 f.2 (subst (AllByRecursion (FitsOne settings)) f.4 fit) in
-        let rest = follows-owing (next f.0) (left_by deed n) (stand_done by_text deed f.0 s) (k.2 f.0) f.2 cut.1 f.3 new end f.6 in
+        let rest = follows-owing (next f.0) (left_by io_action n) (stand_done by_text io_action f.0 s) (k.2 f.0) f.2 cut.1 f.3 new end f.6 in
         subst (Owing s) (sym f.4)
         (record {
           draft = λ m is. any-right _ f.1 f.2 (rest.draft m is);
           lease = λ m is. any-right _ f.1 f.2 (rest.lease m is);
-          back = both-back f.1 f.2 (pass-back settings f.1 cut.0 (deed-asks tells deed f.0 f.1 old f.3 f.5)) rest.back;
+          back = both-back f.1 f.2 (pass-back settings f.1 cut.0 (action-asks tells io_action f.0 f.1 old f.3 f.5)) rest.back;
         })
     follows-owing (says said own) n s k entries fit old new end f = nothing-owed s entries k.0 f.0
     follows-owing (stops stop) n s k entries fit old new end f = nothing-owed s entries k.0 f.0
@@ -133,7 +133,7 @@ module _ (settings : Settings) where
         → RequestTurn own tells last entries old new end → GiveAllBack entries
     turn-back last entries old new end fit t =
         let duty = duty_at t.2 in
-        (follows-owing tells duty.by_text duty.manner t.0 duty.most duty.stand (opens-keeps own last old t.1 t.0 t.2) entries fit t.1 new end t.3).back
+        (follows-owing tells duty.by_text duty.mode t.0 duty.most duty.stand (opens-keeps own last old t.1 t.0 t.2) entries fit t.1 new end t.3).back
 
     pub serves-back : (n : ℕ) (entries : List Entry) (old new : Outside) (ending : End) → AllByRecursion (FitsOne settings) entries
         → ServesStream own tells n entries old new ending → GiveAllBack entries

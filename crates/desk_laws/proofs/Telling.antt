@@ -14,8 +14,8 @@ use Rattle.repo_model.specs.Settings.{Settings}
 use Rattle.repo_routes.specs.Judge.{judge}
 use Rattle.repo_routes.specs.Intent.{Judged}
 use Rattle.repo_routes.specs.declared.judging.Refused.{Refused}
-use Rattle.repo_course.specs.Course.{Close, Course, Deed, Fetch, Outcome, fetch, store_fetched, take_body}
-use Rattle.repo_course.specs.declared.manner.Manner.{Manner}
+use Rattle.repo_course.specs.Course.{Close, Course, IoAction, Fetch, Outcome, fetch, store_fetched, take_body}
+use Rattle.repo_course.specs.declared.mode.ResponseMode.{ResponseMode}
 use Rattle.repo_course.specs.declared.outcomes.End.{End}
 use Rattle.repo_course.specs.Serving.{Does, Opens, clean, torn, failed, refused, unread_head, starved, served, Outside, ServesStream, RequestTurn, print_of}
 use Rattle.course_laws.specs.Duties.{MayAsk, MayDo, Stand, duty_of, landing_by, stand_after, stand_done}
@@ -24,7 +24,7 @@ use Rattle.course_laws.proofs.BodyBytes.{told-is}
 use Rattle.course_laws.proofs.Each.{follows-each}
 use Rattle.course_laws.proofs.Kept.{duty_at, opens-keeps}
 use Rattle.course_laws.proofs.Passes.{IsPassCommand}
-use Rattle.stop_laws.specs.Handed.{AllHandTold, HandsTold, IsTold}
+use Rattle.crash_laws.specs.Handed.{AllHandTold, HandsTold, IsTold}
 
 -- what is stored, and what is kept of a fetch, tells its bytes
 abbrev Told : Stand → Outside → Type 0
@@ -57,12 +57,12 @@ is-told blob other body is print told some =
     subst IsTold same (body, told-is blob.bytes body told some, print)
 
 module _ (tells : Type 0) (tell : tells) where
-  did : (by_text : List ℕ → Option Close) (manner : Manner) (deed : Deed) (outcome : Outcome deed) (mine : List Entry) (s : Stand) (old new : Outside) → MayDo manner deed s
-      → Does tells deed outcome mine old new → Told s old → Told (stand_done by_text deed outcome s) new
-  did by_text manner (take_body n size) (Ok blob) mine s old new may does told = (λ other is. is-told blob other does.1.0 is does.1.3 does.1.4 (does.1.5 tell), told.1)
-  did by_text manner (fetch plan) outcome mine s old new may does told = (told.0, λ other is. absurd (none-some other is))
-  did by_text manner (store_fetched n checked) (Ok blob) mine s old new may does told = (told.0, λ other is. is-told blob other checked.bytes is does.1.2 does.1.3 (does.1.4 tell))
-  did by_text manner deed outcome mine s old new may does told = told
+  did : (by_text : List ℕ → Option Close) (mode : ResponseMode) (io_action : IoAction) (outcome : Outcome io_action) (mine : List Entry) (s : Stand) (old new : Outside) → MayDo mode io_action s
+      → Does tells io_action outcome mine old new → Told s old → Told (stand_done by_text io_action outcome s) new
+  did by_text mode (take_body n size) (Ok blob) mine s old new may does told = (λ other is. is-told blob other does.1.0 is does.1.3 does.1.4 (does.1.5 tell), told.1)
+  did by_text mode (fetch plan) outcome mine s old new may does told = (told.0, λ other is. absurd (none-some other is))
+  did by_text mode (store_fetched n checked) (Ok blob) mine s old new may does told = (told.0, λ other is. is-told blob other checked.bytes is does.1.2 does.1.3 (does.1.4 tell))
+  did by_text mode io_action outcome mine s old new may does told = told
 
   module _ (settings : Settings) where
     -- before the first step nothing is stored
@@ -84,7 +84,7 @@ module _ (tells : Type 0) (tell : tells) where
 
     turn-told : (last : Bool) (entries : List Entry) (old new : Outside) (end : Option End) → RequestTurn settings tells last entries old new end → AllHandTold entries
     turn-told last entries old new end (c, mid, o, f) =
-        follows-each tells HandsTold Told of_pass asked replied (duty_at o).by_text (duty_at o).manner (did (duty_at o).by_text (duty_at o).manner) c (duty_at o).most (duty_at o).stand
+        follows-each tells HandsTold Told of_pass asked replied (duty_at o).by_text (duty_at o).mode (did (duty_at o).by_text (duty_at o).mode) c (duty_at o).most (duty_at o).stand
         (opens-keeps settings last old mid c o) entries mid new end (bare last old mid c o) f
 
     pub serves-told : (n : ℕ) (entries : List Entry) (old new : Outside) (end : End) → ServesStream settings tells n entries old new end → AllHandTold entries

@@ -9,7 +9,7 @@ use Rattle.repo_course.specs.declared.outcomes.End.{End}
 use Rattle.closed_laws.specs.Streams.{AreTurns, Seen}
 use Rattle.answer_laws.specs.Marked.{Mark, own_of}
 use Rattle.answer_laws.specs.Why.{AllAnsweredByCause}
-use Rattle.run_desks.specs.Seen.{Kit, Looks, around}
+use Rattle.run_desks.specs.Seen.{DeskResources, Looks, around}
 use Rattle.turn_lock.specs.declared.view.Entry.{Entry as Call}
 use Rattle.turn_seats.specs.Seated.{Sight, entry_of}
 use Rattle.desk_work.specs.Visits.{Attends, Visit, entries_of}
@@ -19,7 +19,7 @@ abbrev pub marked_by : {T C R : Type 0} → Sight T C R → ℕ → List (Call C
 marked_by {T} {C} {R} sight number log = map (λ (c : Call C R T). record { own = c.by == number; entry = entry_of sight c }) log
 
 module _ (settings : Settings) (start : State) (history : List Mark) where
-  -- a connection, between the caller's entries before it and behind it, was served by these turns, of at most 1,000 requests, and each
+  -- a connection, between the caller's entries before it and after it, was served by these turns, of at most 1,000 requests, and each
   -- of them ends by its cause
   pub record ConnectionAnswered (tells : Type 0) (past entries rest : List Entry) (old new : Outside) (ending : End) : Type 0 where
     pub turns : List Seen
@@ -27,7 +27,7 @@ module _ (settings : Settings) (start : State) (history : List Mark) where
     pub answered : AllAnsweredByCause settings tells start history past rest old turns
 
   -- so was each of these connections in turn
-  abbrev pub VisitsAnswered : {L P D : Type 0} → Looks L P D → List Entry → Kit → List (Visit L) → Type 0
+  abbrev pub VisitsAnswered : {L P D : Type 0} → Looks L P D → List Entry → DeskResources → List (Visit L) → Type 0
   VisitsAnswered looks past before [] = Unit {0}
   VisitsAnswered looks past before (v ∷ vs) =
       ConnectionAnswered looks.tells past v.entries (entries_of vs) (around looks [] v.came before) (around looks v.held v.went v.left) v.ending
@@ -39,8 +39,8 @@ module _ {L P D T C R : Type 0} (looks : Looks L P D) (settings : Settings) (sig
   pub record DeskAnswered (desk back : D) : Type 0 where
     pub number : ℕ
     pub visits : List (Visit L)
-    pub attends : Attends looks settings (looks.kit desk) visits (looks.kit back)
+    pub attends : Attends looks settings (looks.resources desk) visits (looks.resources back)
     pub came : looks.left (looks.port desk) ≡ in_front (map (λ (v : Visit L). v.came) visits) (looks.left (looks.port back))
     pub went : looks.given_back (looks.port back) ≡ behind (looks.given_back (looks.port desk)) (map (λ (v : Visit L). v.went) visits)
     pub own : own_of (marked_by sight number log) ≡ entries_of visits
-    pub answered : VisitsAnswered settings start (marked_by sight number log) looks [] (looks.kit desk) visits
+    pub answered : VisitsAnswered settings start (marked_by sight number log) looks [] (looks.resources desk) visits

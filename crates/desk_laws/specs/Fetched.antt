@@ -15,7 +15,7 @@ abbrev pub FetchedAtDesks : {L P D : Type 0} → Looks L P D → List D → List
 FetchedAtDesks looks [] backs id path blob = ⊥
 FetchedAtDesks looks (desk ∷ desks) [] id path blob = ⊥
 FetchedAtDesks looks (desk ∷ desks) (back ∷ backs) id path blob =
-    FileWasFetched id path blob (looks.kit desk).remote (looks.kit back).remote ⊎ FetchedAtDesks looks desks backs id path blob
+    FileWasFetched id path blob (looks.resources desk).remote (looks.resources back).remote ⊎ FetchedAtDesks looks desks backs id path blob
 
 -- Each file that is answered is a row of a hosted repository that was asked; or it is of a proxy that was asked, which kept it at the
 -- start, or for which one of the desks fetched it.

@@ -10,9 +10,9 @@ ghost use Rattle.repo_course.specs.Serving.{AllTell, Outside, ServesStream};
 ghost use Rattle.repo_course.specs.declared.outcomes.End.{End};
 ghost use Rattle.repo_laws.specs.Closed.{IsLentAs};
 ghost use Rattle.repo_server.specs.Lent.{IsLent};
-ghost use Rattle.run_desks.specs.Seen.{Floor, looks};
+ghost use Rattle.run_desks.specs.Seen.{RunResources, looks};
 ghost use Rattle.run_desks.specs.declared.objects.Desk.{Desk};
-ghost use Rattle.stop_laws.specs.Handed.{AllHandTold, AnyHands, HandOnce};
+ghost use Rattle.crash_laws.specs.Handed.{AllHandTold, AnyHands, HandOnce};
 ghost use Rattle.turn_lock.specs.Seats.{opening, mine, joined, seen};
 ghost use Rattle.turn_seats.specs.Ending.{HoldsSeat};
 ghost use Rattle.seat_laws.specs.Closing.{IsFit, SeesAll};
@@ -45,7 +45,7 @@ pub fn streams_give_all_back<H: Held>()
 /// Where desks and the cleaner have worked to the end, no draft and no lease is left: none stood as the turns began, and the seat that
 /// was handed in had made no call and had taken no other seat in.
 pub fn servers_leave_nothing<P: Port, B: Blobs, R: Remote, T: Repository>()
-    ensures { (settings : Settings) (turns : _) (seat : _) (old new : Floor (List (Desk P B R P.Link B.Held B.Pen))) (thing : T) (calls : ℕ) (failed : Bool) →
+    ensures { (settings : Settings) (turns : _) (seat : _) (old new : RunResources (List (Desk P B R P.Link B.Held B.Pen))) (thing : T) (calls : ℕ) (failed : Bool) →
         Works (looks ⟦<P as Port>⟧ ⟦<P::Link as Tells>⟧ ⟦<B as Blobs>⟧ ⟦<B::Held as Held>⟧ ⟦<R as Remote>⟧) (rules ⟦<T as Thing>⟧ T.sight) settings turns seat old new thing calls failed →
         mine seat ≡ [] → joined seat ≡ [] → (T.sight.state (opening turns)).yard.drafts ≡ [] → (T.sight.state (opening turns)).yard.leases ≡ [] →
         ((T.sight.state thing).yard.drafts ≡ []) × ((T.sight.state thing).yard.leases ≡ []) }
@@ -55,7 +55,7 @@ pub fn servers_leave_nothing<P: Port, B: Blobs, R: Remote, T: Repository>()
 /// asked; or it is of a proxy that was asked, which kept it as the turns began, or for which one of the desks fetched it: its bytes came
 /// whole, and a side file of the remote said their digest. The seat that was handed in had made no call and had taken no other seat in.
 pub fn servers_answer_what_was_fetched<P: Port, B: Blobs, R: Remote, T: Repository>()
-    ensures { (settings : Settings) (turns : _) (seat : _) (old new : Floor (List (Desk P B R P.Link B.Held B.Pen))) (thing : T) (calls : ℕ) (failed : Bool) →
+    ensures { (settings : Settings) (turns : _) (seat : _) (old new : RunResources (List (Desk P B R P.Link B.Held B.Pen))) (thing : T) (calls : ℕ) (failed : Bool) →
         (works : Works (looks ⟦<P as Port>⟧ ⟦<P::Link as Tells>⟧ ⟦<B as Blobs>⟧ ⟦<B::Held as Held>⟧ ⟦<R as Remote>⟧) (rules ⟦<T as Thing>⟧ T.sight) settings turns seat old new thing calls failed) →
         mine seat ≡ [] → joined seat ≡ [] →
         AreFilesFetched (looks ⟦<P as Port>⟧ ⟦<P::Link as Tells>⟧ ⟦<B as Blobs>⟧ ⟦<B::Held as Held>⟧ ⟦<R as Remote>⟧) (T.sight.settings (opening turns)) (T.sight.state (opening turns))
@@ -77,13 +77,13 @@ pub fn streams_hand_over_each_blob_once<H: Held>()
 /// So it is of the one history of all desks and the cleaner, where they have worked to the end: no two blobs that are handed over in it have one
 /// number, whichever desks stored them. The seat that was handed in had made no call and had taken no other seat in.
 pub fn servers_hand_over_each_blob_once<P: Port, B: Blobs, R: Remote, T: Repository>()
-    ensures told { (settings : Settings) (turns : _) (seat : _) (old new : Floor (List (Desk P B R P.Link B.Held B.Pen))) (thing : T) (calls : ℕ) (failed : Bool) →
+    ensures told { (settings : Settings) (turns : _) (seat : _) (old new : RunResources (List (Desk P B R P.Link B.Held B.Pen))) (thing : T) (calls : ℕ) (failed : Bool) →
         (works : Works (looks ⟦<P as Port>⟧ ⟦<P::Link as Tells>⟧ ⟦<B as Blobs>⟧ ⟦<B::Held as Held>⟧ ⟦<R as Remote>⟧) (rules ⟦<T as Thing>⟧ T.sight) settings turns seat old new thing calls failed) →
         mine seat ≡ [] → joined seat ≡ [] → AllTell B.Held.bytes → AllHandTold (map (entry_of T.sight) works.ended.log) }
-    ensures once { (settings : Settings) (turns : _) (seat : _) (old new : Floor (List (Desk P B R P.Link B.Held B.Pen))) (thing : T) (calls : ℕ) (failed : Bool) →
+    ensures once { (settings : Settings) (turns : _) (seat : _) (old new : RunResources (List (Desk P B R P.Link B.Held B.Pen))) (thing : T) (calls : ℕ) (failed : Bool) →
         (works : Works (looks ⟦<P as Port>⟧ ⟦<P::Link as Tells>⟧ ⟦<B as Blobs>⟧ ⟦<B::Held as Held>⟧ ⟦<R as Remote>⟧) (rules ⟦<T as Thing>⟧ T.sight) settings turns seat old new thing calls failed) →
         mine seat ≡ [] → joined seat ≡ [] → HandOnce (map (entry_of T.sight) works.ended.log) }
-    ensures drawn { (settings : Settings) (turns : _) (seat : _) (old new : Floor (List (Desk P B R P.Link B.Held B.Pen))) (thing : T) (calls : ℕ) (failed : Bool) →
+    ensures drawn { (settings : Settings) (turns : _) (seat : _) (old new : RunResources (List (Desk P B R P.Link B.Held B.Pen))) (thing : T) (calls : ℕ) (failed : Bool) →
         (works : Works (looks ⟦<P as Port>⟧ ⟦<P::Link as Tells>⟧ ⟦<B as Blobs>⟧ ⟦<B::Held as Held>⟧ ⟦<R as Remote>⟧) (rules ⟦<T as Thing>⟧ T.sight) settings turns seat old new thing calls failed) →
         mine seat ≡ [] → joined seat ≡ [] → (k : ℕ) → AnyHands k (map (entry_of T.sight) works.ended.log) → (T.sight.state (opening turns)).yard.next_draft ≤ k }
 {}
@@ -92,7 +92,7 @@ pub fn servers_hand_over_each_blob_once<P: Port, B: Blobs, R: Remote, T: Reposit
 /// history of all desks and the cleaner: in it the calls by the desk's number are just the entries of its connections, one after another,
 /// and where one is told that there is no draft, a call of another number has spent it.
 pub fn desks_are_answered_by_cause<P: Port, B: Blobs, R: Remote, T: Repository>()
-    ensures { (settings : Settings) (turns : _) (seat : _) (old new : Floor (List (Desk P B R P.Link B.Held B.Pen))) (thing : T) (calls : ℕ) (failed : Bool) →
+    ensures { (settings : Settings) (turns : _) (seat : _) (old new : RunResources (List (Desk P B R P.Link B.Held B.Pen))) (thing : T) (calls : ℕ) (failed : Bool) →
         (works : Works (looks ⟦<P as Port>⟧ ⟦<P::Link as Tells>⟧ ⟦<B as Blobs>⟧ ⟦<B::Held as Held>⟧ ⟦<R as Remote>⟧) (rules ⟦<T as Thing>⟧ T.sight) settings turns seat old new thing calls failed) →
         T.sight.settings (opening turns) ≡ settings →
         AllZip (DeskAnswered (looks ⟦<P as Port>⟧ ⟦<P::Link as Tells>⟧ ⟦<B as Blobs>⟧ ⟦<B::Held as Held>⟧ ⟦<R as Remote>⟧) settings T.sight (T.sight.state (opening turns)) works.ended.log) old.desks new.desks }
@@ -102,13 +102,13 @@ pub fn desks_are_answered_by_cause<P: Port, B: Blobs, R: Remote, T: Repository>(
 /// as `seats_see_closed_histories` of `seat_laws` says: what a document named is answered, what was given out stays gone, releases stay.
 /// The turns began with settings that name each repository once, and with a sound state, as a repository that was started has.
 pub fn seats_of_servers_see_closed_histories<P: Port, B: Blobs, R: Remote, T: Repository>()
-    ensures whole { (settings : Settings) (turns : _) (seat : _) (old new : Floor (List (Desk P B R P.Link B.Held B.Pen))) (thing : T) (calls : ℕ) (failed : Bool) →
+    ensures whole { (settings : Settings) (turns : _) (seat : _) (old new : RunResources (List (Desk P B R P.Link B.Held B.Pen))) (thing : T) (calls : ℕ) (failed : Bool) →
         (works : Works (looks ⟦<P as Port>⟧ ⟦<P::Link as Tells>⟧ ⟦<B as Blobs>⟧ ⟦<B::Held as Held>⟧ ⟦<R as Remote>⟧) (rules ⟦<T as Thing>⟧ T.sight) settings turns seat old new thing calls failed) →
         IsFit T.sight (opening turns) → SeesAll T.sight (opening turns) works.ended.log }
-    ensures cleaner { (settings : Settings) (turns : _) (seat : _) (old new : Floor (List (Desk P B R P.Link B.Held B.Pen))) (thing : T) (calls : ℕ) (failed : Bool) →
+    ensures cleaner { (settings : Settings) (turns : _) (seat : _) (old new : RunResources (List (Desk P B R P.Link B.Held B.Pen))) (thing : T) (calls : ℕ) (failed : Bool) →
         (works : Works (looks ⟦<P as Port>⟧ ⟦<P::Link as Tells>⟧ ⟦<B as Blobs>⟧ ⟦<B::Held as Held>⟧ ⟦<R as Remote>⟧) (rules ⟦<T as Thing>⟧ T.sight) settings turns seat old new thing calls failed) →
         IsFit T.sight (opening turns) → SeesAll T.sight (opening turns) (seen works.cleaning) }
-    ensures desk { (settings : Settings) (turns : _) (seat : _) (old new : Floor (List (Desk P B R P.Link B.Held B.Pen))) (thing : T) (calls : ℕ) (failed : Bool) →
+    ensures desk { (settings : Settings) (turns : _) (seat : _) (old new : RunResources (List (Desk P B R P.Link B.Held B.Pen))) (thing : T) (calls : ℕ) (failed : Bool) →
         (works : Works (looks ⟦<P as Port>⟧ ⟦<P::Link as Tells>⟧ ⟦<B as Blobs>⟧ ⟦<B::Held as Held>⟧ ⟦<R as Remote>⟧) (rules ⟦<T as Thing>⟧ T.sight) settings turns seat old new thing calls failed) →
         IsFit T.sight (opening turns) → (own : _) → HoldsSeat works.ended.log own → SeesAll T.sight (opening turns) (seen own) }
 {}

@@ -11,7 +11,7 @@ use Rattle.turn_lock.specs.declared.turns.Turns.{Turns}
 use Rattle.turn_lock.specs.History.{Legal}
 use Rattle.turn_lock.specs.declared.seat.SeatToken.{SeatToken as Seat}
 use Rattle.turn_lock.specs.Seats.{IsSeatOf, opening, parts_of}
-use Rattle.run_desks.specs.Seen.{Floor, Looks}
+use Rattle.run_desks.specs.Seen.{RunResources, Looks}
 use Rattle.turn_seats.specs.Ending.{Ended}
 use Rattle.turn_seats.specs.Histories.{IsHistory}
 use Rattle.seat_server.specs.Rules.{Rules}
@@ -63,7 +63,7 @@ module _ {T C R : Type 0} (rules : Rules T C R) where
 
   pub worked : ((x : T) (log : List (Call C R T)) → Legal rules.steps x log → IsHistory rules.sight x log)
       → {L P D : Type 0} (looks : Looks L P D) (settings : Settings) (turns : Turns T C R) (first cleaning : Seat C R T) (outs : List (Seat C R T × (D × Bool)))
-      (old new : Floor (List D)) (thing : T) (calls : ℕ) (failed : Bool)
+      (old new : RunResources (List D)) (thing : T) (calls : ℕ) (failed : Bool)
       → AllZip (DeskDone looks rules settings turns first) old.desks outs → CleanedBeside rules settings turns first cleaning old.cleaner new.cleaner
       → Ended rules.steps turns cleaning (map (λ (out : Seat C R T × (D × Bool)). out.0) outs) thing calls
       → new.desks ≡ map (λ (out : Seat C R T × (D × Bool)). out.1.0) outs → failed ≡ list_any (λ (out : Seat C R T × (D × Bool)). out.1.1) outs

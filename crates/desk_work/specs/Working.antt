@@ -5,7 +5,7 @@ use Rattle.repo_model.specs.Command.{Command}
 use Rattle.repo_model.specs.Reply.{Reply}
 use Rattle.repo_model.specs.Settings.{Settings}
 use Rattle.repo_model.specs.History as machine
-use Rattle.run_desks.specs.Seen.{Broom, Floor, Looks}
+use Rattle.run_desks.specs.Seen.{CleanerResources, RunResources, Looks}
 use Rattle.turn_lock.specs.declared.turns.Turns.{Turns}
 use Rattle.turn_lock.specs.declared.seat.SeatToken.{SeatToken as Seat}
 use Rattle.turn_lock.specs.Seats.{opening, seen, mine, joined, parts_of, IsSeatOf, Same}
@@ -38,14 +38,14 @@ abbrev pub DeskDone : {L P D T C R : Type 0} → Looks L P D → Rules T C R →
 DeskDone {L} {P} {D} {T} {C} {R} looks rules settings turns first desk out = (own : Seat C R T) × IsBegun first own × DeskServes looks rules settings turns own desk out
 
 -- the cleaner made its passes with the first seat, but for the parts that were split off
-abbrev pub CleanedBeside : {T C R : Type 0} → Rules T C R → Settings → Turns T C R → Seat C R T → Seat C R T → Broom → Broom → Type 0
+abbrev pub CleanedBeside : {T C R : Type 0} → Rules T C R → Settings → Turns T C R → Seat C R T → Seat C R T → CleanerResources → CleanerResources → Type 0
 CleanedBeside {T} {C} {R} rules settings turns first new before after =
     (handed : Seat C R T) × Same first handed × KeptClean rules settings turns handed new before after
 
 -- Each desk served with a seat of its own, and the cleaner made its passes with the seat handed in, but for the parts that were split off. Together these seats have all entries of one history of the
 -- repository, which ended: the object is its end, and the number of calls its length. The desks came back, and a port failed where one of them says so
 pub record Works {L P D T C R : Type 0} (looks : Looks L P D) (rules : Rules T C R) (settings : Settings) (turns : Turns T C R) (first : Seat C R T)
-    (old new : Floor (List D)) (thing : T) (calls : ℕ) (failed : Bool) : Type 0 where
+    (old new : RunResources (List D)) (thing : T) (calls : ℕ) (failed : Bool) : Type 0 where
   pub outs : List (Seat C R T × (D × Bool))
   pub done : AllZip (DeskDone looks rules settings turns first) old.desks outs
   pub cleaning : Seat C R T

@@ -19,7 +19,7 @@ use std::sync::Wait;
 use turn_lock::{Seat, Thing, Turns};
 use turn_seats::Repository;
 
-/// The table of routes that is kept, or, where none is, one made now: a desk for which memory was wanting tries again before its
+/// The table of routes that is kept, or, where none is, one made now: a desk for which memory ran out tries again before its
 /// next connection.
 fn or_made(alloc: Global, kept: Option<Routes>) -> Option<Routes> {
     match kept {

@@ -76,14 +76,14 @@ impl<
     ghost use Rattle.seat_server.specs.Rules.{rules};
     ghost use Rattle.desk_work.specs.Working.{IsReady};
     ghost use Rattle.repo_model.specs.Shown.{shown_command, shown_reply};
-    ghost use Rattle.run_desks.specs.Seen.{broom};
+    ghost use Rattle.run_desks.specs.Seen.{cleaner_resources};
 
     type Out = (Seat<T>, Cleaner<B, Q>);
 
     ghost ready = { λ job. IsReady (rules ⟦<T as Thing>⟧ T.sight) shown_command shown_reply job.house.now.settings job.house.now.turns job.seat };
 
     ghost gives = { λ job out. KeptClean (rules ⟦<T as Thing>⟧ T.sight) job.house.now.settings job.house.now.turns job.seat out.0
-        (broom ⟦<B as Blobs>⟧ ⟦<Q as Pace>⟧ job.cleaner) (broom ⟦<B as Blobs>⟧ ⟦<Q as Pace>⟧ out.1) };
+        (cleaner_resources ⟦<B as Blobs>⟧ ⟦<Q as Pace>⟧ job.cleaner) (cleaner_resources ⟦<B as Blobs>⟧ ⟦<Q as Pace>⟧ out.1) };
 
     fn run<W: Wait>(self, rt: &W) -> (Seat<T>, Cleaner<B, Q>) {
         let CleanerJob {

@@ -5,7 +5,7 @@ ghost use Rattle.seat_server.specs.Passages.{KeptClean};
 ghost use Rattle.seat_server.specs.Rules.{rules};
 ghost use Rattle.desk_work.specs.Working.{CleanedBeside, DeskDone, DeskServes, IsReady};
 ghost use Rattle.repo_model.specs.Shown.{shown_command, shown_reply};
-ghost use Rattle.run_desks.specs.Seen.{broom, looks};
+ghost use Rattle.run_desks.specs.Seen.{cleaner_resources, looks};
 ghost use Rattle.turn_lock.specs.Seats.{parts_of};
 
 use crate::jobs::{CleanerJob, DeskJob, House};
@@ -51,7 +51,7 @@ where
     ensures served { AllZip (λ job out. DeskServes (looks ⟦<P as Port>⟧ ⟦<P::Link as Tells>⟧ ⟦<B as Blobs>⟧ ⟦<B::Held as Held>⟧ ⟦<R as Remote>⟧) (rules ⟦<T as Thing>⟧ T.sight)
         job.house.now.settings job.house.now.turns job.seat job.desk out) jobs.entry.items result.0.items }
     ensures cleaned { KeptClean (rules ⟦<T as Thing>⟧ T.sight) last.entry.house.now.settings last.entry.house.now.turns last.entry.seat result.1.0
-        (broom ⟦<B as Blobs>⟧ ⟦<Q as Pace>⟧ last.entry.cleaner) (broom ⟦<B as Blobs>⟧ ⟦<Q as Pace>⟧ result.1.1) }
+        (cleaner_resources ⟦<B as Blobs>⟧ ⟦<Q as Pace>⟧ last.entry.cleaner) (cleaner_resources ⟦<B as Blobs>⟧ ⟦<Q as Pace>⟧ result.1.1) }
     ensures len { vec_len result.0 ≡ vec_len jobs.entry }
 {
     run_beside(rt, last, jobs, room)
@@ -74,8 +74,8 @@ pub fn parted<P: Port + Drop, B: Blobs + Drop, R: Remote + Drop>(
     (room, failed)
 }
 
-// Gives each desk a seat, serves all of them at once, and cleans beside them with what is left of the seat. Where memory is
-// wanting nothing is done.
+// Gives each desk a seat, serves all of them at once, and cleans beside them with what is left of the seat. When
+// memory runs out nothing is done.
 pub fn serve_all<
     P: Port + Drop + Send,
     B: Blobs + Drop + Send,
@@ -108,7 +108,7 @@ where
     ensures done { IfOk result (λ r. AllZip (DeskDone (looks ⟦<P as Port>⟧ ⟦<P::Link as Tells>⟧ ⟦<B as Blobs>⟧ ⟦<B::Held as Held>⟧ ⟦<R as Remote>⟧) (rules ⟦<T as Thing>⟧ T.sight)
         house.now.settings house.now.turns seat) desks.items r.0.items) }
     ensures cleaned { IfOk result (λ r. CleanedBeside (rules ⟦<T as Thing>⟧ T.sight) house.now.settings house.now.turns seat r.1.0
-        (broom ⟦<B as Blobs>⟧ ⟦<Q as Pace>⟧ cleaner) (broom ⟦<B as Blobs>⟧ ⟦<Q as Pace>⟧ r.1.1)) }
+        (cleaner_resources ⟦<B as Blobs>⟧ ⟦<Q as Pace>⟧ cleaner) (cleaner_resources ⟦<B as Blobs>⟧ ⟦<Q as Pace>⟧ r.1.1)) }
     ensures parts { IfOk result (λ r. parts_of r.1.0 + vec_len r.0 ≡ parts_of seat) }
     ensures len { IfOk result (λ r. vec_len r.0 ≡ vec_len desks) }
     ensures refused { IfErr result (λ r. (r.0 ≡ seat) × (r.1.items ≡ desks.items) × (r.2 ≡ cleaner)) }

@@ -4,7 +4,7 @@ ghost use Rattle.std.specs.List.{list_any};
 ghost use Rattle.seat_server.specs.Rules.{rules};
 ghost use Rattle.desk_work.specs.Working.{IsReady, Works};
 ghost use Rattle.repo_model.specs.Shown.{shown_command, shown_reply};
-ghost use Rattle.run_desks.specs.Seen.{floor, looks};
+ghost use Rattle.run_desks.specs.Seen.{run_resources, looks};
 ghost use Rattle.turn_lock.specs.History.{IsStep};
 ghost use Rattle.turn_lock.specs.Seats.{parts_of, Closes, IsSeatOf};
 ghost use Rattle.turn_seats.specs.Ending.{Ended};
@@ -121,8 +121,8 @@ fn rooms<P: Port + Drop, B: Blobs + Drop, R: Remote + Drop, T: Thing>(
 /// Serves all desks at once, each with a seat of its own, until none of their ports hands out a connection any more, and cleans
 /// beside them, until the timer says that no pass is wanted; then ends the history.
 ///
-/// A desk for which no thread can be made is served by the caller, behind its own, and a cleaner for which none can be made
-/// makes its passes behind all desks. `refused` says that memory was wanted before any connection was served: then nothing was
+/// A desk for which no thread can be made is served by the caller, after its own, and a cleaner for which none can be made
+/// makes its passes after all desks. `refused` says that memory ran out before any connection was served: then nothing was
 /// done. `failed` says that a port failed, which is so exactly where its count rose. The seat has all parts, and the settings
 /// are those of the repository. The entries of all connections and all passes, and no others, lie in one legal history that
 /// goes on from what the seat had seen; the repository is left as it says,
@@ -152,7 +152,7 @@ where
     ensures refused { IsTrue result.refused → (result.desks.items ≡ desks.items) × (result.cleaner ≡ cleaner) × IsFalse result.failed
         × Closes (IsStep T.fixed T.may_ask T.turned) turns seat result.repository result.calls }
     ensures works { IsFalse result.refused → Works (looks ⟦<P as Port>⟧ ⟦<P::Link as Tells>⟧ ⟦<B as Blobs>⟧ ⟦<B::Held as Held>⟧ ⟦<R as Remote>⟧) (rules ⟦<T as Thing>⟧ T.sight) settings turns seat
-        (floor ⟦<B as Blobs>⟧ ⟦<Q as Pace>⟧ desks.items cleaner) (floor ⟦<B as Blobs>⟧ ⟦<Q as Pace>⟧ result.desks.items result.cleaner)
+        (run_resources ⟦<B as Blobs>⟧ ⟦<Q as Pace>⟧ desks.items cleaner) (run_resources ⟦<B as Blobs>⟧ ⟦<Q as Pace>⟧ result.desks.items result.cleaner)
         result.repository result.calls result.failed }
 {
     // The history that all make is one of the repository.

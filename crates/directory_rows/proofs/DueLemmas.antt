@@ -79,7 +79,7 @@ module _ (d : Directory) (base word : List ℕ) (walk : IsWalkOf d base word tru
   pub begun : (rows : List plain.Row) → listed_in d (rest_from base rows) ≡ listed_in d rows
   begun rows = listed_rest d base (λ q h. let f = in_front d base word q true walk h in subst (UpTo base) (sym f.1) (UpTo-front base f.0)) rows
 
-  -- no row of the directory comes at or behind a path that does not begin as the directory's
+  -- no row of the directory comes at or after a path that does not begin as the directory's
   pub ended : (all front rows : List plain.Row) (row : plain.Row) → AreRising all → rest_from base all ≡ front ++ row ∷ rows → ((x : List ℕ) → row.path ≡ base ++ x → ⊥) → listed_in d front ≡ listed_in d all
   ended all front rows row up is other =
       let at = stands-from base all front rows row up is in

@@ -13,7 +13,7 @@ use Rattle.mvn_coords.specs.Layout.{Coordinates}
 use Rattle.mvn_coords.specs.Path.{IsFile}
 use Rattle.mvn_coords.specs.Segment.{is_path_byte}
 use Rattle.mvn_coords.specs.declared.fault.PathFault.TheVariants as fault
-use Rattle.mvn_coords.proofs.Cuts.{behind_some, before_some}
+use Rattle.mvn_coords.proofs.Cuts.{after_some, before_some}
 use Rattle.mvn_coords.proofs.Results.{bound, chosen_some, ok_or_some, ok_same, some_same}
 use Rattle.mvn_coords.specs.Segment.{is_version_directory}
 use Rattle.mvn_metadata.specs.Form.{is_base_version, is_build, is_classifier, is_entry, is_extension}
@@ -44,7 +44,7 @@ numbered_tail text v h = by_dash (behind (45 ∷ []) text) refl h
     by_dash : (o : Option (List ℕ)) → behind (45 ∷ []) text ≡ o → option_and_then number_in o ≡ Some v → (front : List ℕ) × (text ≡ front ++ v.1)
     by_dash None a g = cc
     by_dash (Some run) a g =
-        (45 ∷ take (digit_count run) run, behind_some (45 ∷ []) text run a ∙ ap (λ w. 45 ∷ w) (by_number run (number_of (take (digit_count run) run)) g))
+        (45 ∷ take (digit_count run) run, after_some (45 ∷ []) text run a ∙ ap (λ w. 45 ∷ w) (by_number run (number_of (take (digit_count run) run)) g))
 
 tail_in : (artifact directory name : List ℕ) (base : Option (List ℕ)) (e : Ending) → ending_in artifact directory name base ≡ Ok e → Tail name e
 tail_in artifact directory name None e h =
@@ -52,7 +52,7 @@ tail_in artifact directory name None e h =
     record {
       front = artifact ++ 45 ∷ directory;
       text = b.value;
-      joined = behind_some (artifact ++ 45 ∷ directory) name b.value (ok_or_some _ fault.NotNamed b.value b.first);
+      joined = after_some (artifact ++ 45 ∷ directory) name b.value (ok_or_some _ fault.NotNamed b.value b.first);
       tail = ending_tail None b.value e b.next;
     }
 tail_in artifact directory name (Some base) e h =
@@ -65,7 +65,7 @@ tail_in artifact directory name (Some base) e h =
       front = (start ++ take 15 b.value) ++ run.0;
       text = n.value.1;
       joined =
-          behind_some start name b.value (ok_or_some _ fault.NotNamed b.value b.first)
+          after_some start name b.value (ok_or_some _ fault.NotNamed b.value b.first)
           ∙ ap (λ t. start ++ t) (sym (take-append-drop 15 b.value) ∙ ap (λ t. take 15 b.value ++ t) run.1)
           ∙ sym (append_assoc start (take 15 b.value) (run.0 ++ n.value.1))
           ∙ sym (append_assoc (start ++ take 15 b.value) run.0 n.value.1);
@@ -115,7 +115,7 @@ tail_form text t h bytes size = by_dot (behind (46 ∷ []) text) (behind (45 ∷
     by_dot (Some e) p a b g =
         let c = chosen_some (is_filled e) (Some ([], e)) t g in
         let same : ([], e) ≡ t = some_same _ _ c.value in
-        let is = behind_some (46 ∷ []) text e a in
+        let is = after_some (46 ∷ []) text e a in
         let inner : list_all is_path_byte e ≡ true = (and_parts (is_path_byte 46) (list_all is_path_byte e) (sym (ap (list_all is_path_byte) is) ∙ bytes)).1 in
         let short : length e ≤ 255 = omega (arith, ap length is, size) in
         subst (λ (v : List ℕ × List ℕ). TailForm v.0 v.1) same (record { is_classifier = refl; is_extension = as_extension e c.test short inner })
@@ -123,7 +123,7 @@ tail_form text t h bytes size = by_dot (behind (46 ∷ []) text) (behind (45 ∷
         let c = chosen_some _ (Some (before_first is_dot r, after_first is_dot r)) t g in
         let some = and_parts (is_filled (before_first is_dot r)) (is_filled (after_first is_dot r)) c.test in
         let same : (before_first is_dot r, after_first is_dot r) ≡ t = some_same _ _ c.value in
-        let is = behind_some (45 ∷ []) text r b in
+        let is = after_some (45 ∷ []) text r b in
         let inner : list_all is_path_byte r ≡ true = (and_parts (is_path_byte 45) (list_all is_path_byte r) (sym (ap (list_all is_path_byte) is) ∙ bytes)).1 in
         let short : length r ≤ 255 = omega (arith, ap length is, size) in
         let k = position_or_len is_dot r in

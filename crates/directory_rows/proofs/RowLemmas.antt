@@ -49,15 +49,15 @@ rising-filter p (row ∷ rows) h =
       | false ↦ rising-filter p rows h.1
     ]
 
-pub rising-behind : (front rows : List plain.Row) → AreRising (front ++ rows) → AreRising rows
-rising-behind [] rows h = h
-rising-behind (row ∷ front) rows h = rising-behind front rows h.1
+pub rising-after : (front rows : List plain.Row) → AreRising (front ++ rows) → AreRising rows
+rising-after [] rows h = h
+rising-after (row ∷ front) rows h = rising-after front rows h.1
 
 after-member : (path : List ℕ) (front rows : List plain.Row) (row : plain.Row) → AreAfter path (front ++ row ∷ rows) → cmp path row.path ≡ Less
 after-member path [] rows row h = h.0
 after-member path (first ∷ front) rows row h = after-member path front rows row h.1
 
--- what stands before a row is not behind a text that lies behind the row
+-- what stands before a row is not after a text that lies after the row
 pub front-gone : (next : List ℕ) (front rows : List plain.Row) (row : plain.Row) → AreRising (front ++ row ∷ rows) → cmp row.path next ≡ Less → rest_from next front ≡ []
 front-gone next [] rows row up h = refl
 front-gone next (first ∷ front) rows row up h =
@@ -81,7 +81,7 @@ rest-rest text next (row ∷ rows) h =
           (false_from_ne_true (is_le (cmp next row.path)) (λ up. both_ways (is_le (cmp text row.path)) there (UpTo-trans text next row.path h up))))
     ] refl
 
--- each row stands at or behind a path
+-- each row stands at or after a path
 abbrev pub AreFrom : List ℕ → List plain.Row → Type 0
 AreFrom path rows = AllByRecursion (λ (row : plain.Row). UpTo path row.path) rows
 
@@ -103,10 +103,10 @@ length-rest text (row ∷ rows) =
       | false ↦ omega (arith, length-rest text rows)
     ]
 
--- where a walk goes on behind a row, fewer rows are left
-pub rest-behind : (text next : List ℕ) (all front rows : List plain.Row) (row : plain.Row) → AreRising all → UpTo text next → rest_from text all ≡ front ++ row ∷ rows → cmp row.path next ≡ Less
+-- where a walk goes on after a row, fewer rows are left
+pub rest-after : (text next : List ℕ) (all front rows : List plain.Row) (row : plain.Row) → AreRising all → UpTo text next → rest_from text all ≡ front ++ row ∷ rows → cmp row.path next ≡ Less
     → (rest_from next all ≡ rest_from next (row ∷ rows)) × (length (rest_from next all) < length (rest_from text all))
-rest-behind text next all front rows row up h is less =
+rest-after text next all front rows row up h is less =
     let rising : AreRising (front ++ row ∷ rows) = subst AreRising is (rising-filter (λ r. is_le (cmp text r.path)) all up) in
     let whole : rest_from next all ≡ rest_from next (row ∷ rows) =
     sym (rest-rest text next all h) ∙ ap (rest_from next) is ∙ filter-append (λ (r : plain.Row). is_le (cmp next r.path)) front (row ∷ rows)
@@ -127,14 +127,14 @@ from-member : (text : List ℕ) (front rows : List plain.Row) (row : plain.Row) 
 from-member text [] rows row h = h.0
 from-member text (first ∷ front) rows row h = from-member text front rows row h.1
 
--- a row at which a walk stands is at or behind the text that it began at, and all left rows are at or behind the row
+-- a row at which a walk stands is at or after the text that it began at, and all left rows are at or after the row
 pub stands-from : (text : List ℕ) (all front rows : List plain.Row) (row : plain.Row) → AreRising all → rest_from text all ≡ front ++ row ∷ rows → UpTo text row.path × AreFrom row.path (row ∷ rows)
 stands-from text all front rows row up is = (
   from-member text front rows row (subst (AreFrom text) is (from-rest text all)),
-  from-first row rows (rising-behind front (row ∷ rows) (subst AreRising is (rising-filter (λ r. is_le (cmp text r.path)) all up))),
+  from-first row rows (rising-after front (row ∷ rows) (subst AreRising is (rising-filter (λ r. is_le (cmp text r.path)) all up))),
 )
 
--- the rows that a walk has behind it, the one that it meets, and the ones that are left
+-- the rows that a walk has after it, the one that it meets, and the ones that are left
 pub met : {X : Type 0} {G : Ghosts X} (text : String Global) (es range begun front rest left : List (String Global × Row X G)) (o : Option (Bor (String Global) × Bor (Row X G))) (key : Bor (String Global)) (row : Bor (Row X G))
     → o ≡ Some (key, row) → TakesFirst deref_pair rest o left → range ≡ entries_between string_cmp (Included text) Unbounded es → begun ≡ range → begun ≡ front ++ rest
     → (shown_rows rest ≡ shown_at (string_bytes key.now) row.now ∷ shown_rows left)

@@ -7,7 +7,7 @@ use Rattle.mvn_coords.proofs.Levels.{Whole}
 use Rattle.repo_model.specs.Paths.{file_at, stands_in}
 use Rattle.directory_rows.specs.Walks.{IsWalkOf}
 use Rattle.directory_rows.proofs.DirectoryForms.{stands, artifact_row, snapshot_row}
-use Rattle.directory_rows.proofs.TextLemmas.{cmp, UpTo, cmp-append, UpTo-append, append-UpTo, UpTo-front, UpTo-trans, not_before, segment_behind, below_or_behind, behind_front}
+use Rattle.directory_rows.proofs.TextLemmas.{cmp, UpTo, cmp-append, UpTo-append, append-UpTo, UpTo-front, UpTo-trans, not_before, segment_after, below_or_after, after_front}
 
 some_version : (o : Option (List ℕ)) → true ≡ is_some o → (v : List ℕ) × (o ≡ Some v)
 some_version None h = absurd (false≢true (sym h))
@@ -71,7 +71,7 @@ module _ (base word name : List ℕ) where
   pub among_deeper : (q front rest : List ℕ) → Among base word q → name ≡ front ++ 47 ∷ rest → UpTo (base ++ name) q → UpTo (base ++ (front ++ 48 ∷ [])) q
   among_deeper q front rest a is up =
       subst (UpTo (base ++ (front ++ 48 ∷ []))) (sym a.path) (append-UpTo base (front ++ 48 ∷ []) (word ++ a.rest)
-      (segment_behind front rest (word ++ a.rest) a.whole (subst (λ n. UpTo n (word ++ a.rest)) is (up_name q a up))))
+      (segment_after front rest (word ++ a.rest) a.whole (subst (λ n. UpTo n (word ++ a.rest)) is (up_name q a up))))
 
 pub deeper_less : (base front rest name : List ℕ) → name ≡ front ++ 47 ∷ rest → cmp (base ++ name) (base ++ (front ++ 48 ∷ [])) ≡ Less
 deeper_less base front rest name is =
@@ -82,17 +82,17 @@ before_less base name word h = cmp-append base name word ∙ h
 
 -- ---- in a version directory
 module _ (base word version name : List ℕ) (whole : Whole version) where
-  -- such a row stands in this version directory, or behind all of it
+  -- such a row stands in this version directory, or after all of it
   sides : (q : List ℕ) (b : Below base word q) → UpTo (base ++ (version ++ 47 ∷ name)) q → (UpTo name (word ++ b.rest) × (b.version ≡ version)) ⊎ UpTo (version ++ 48 ∷ []) (b.version ++ 47 ∷ (word ++ b.rest))
   sides q b up =
       let inner : UpTo (version ++ 47 ∷ name) (b.version ++ 47 ∷ (word ++ b.rest)) = UpTo-append base (version ++ 47 ∷ name) (b.version ++ 47 ∷ (word ++ b.rest)) (subst (UpTo (base ++ (version ++ 47 ∷ name))) b.path up) in
       ⊎_elim (λ same. inl (UpTo-append version (47 ∷ name) (47 ∷ (word ++ b.rest)) (subst (λ v. UpTo (version ++ 47 ∷ name) (v ++ 47 ∷ (word ++ b.rest))) same inner), same)) (λ behind. inr behind)
-      (below_or_behind version name b.version (word ++ b.rest) whole b.whole_version inner)
+      (below_or_after version name b.version (word ++ b.rest) whole b.whole_version inner)
 
   to_path : (q next : List ℕ) (b : Below base word q) → UpTo next (b.version ++ 47 ∷ (word ++ b.rest)) → UpTo (base ++ next) q
   to_path q next b up = subst (UpTo (base ++ next)) (sym b.path) (append-UpTo base next (b.version ++ 47 ∷ (word ++ b.rest)) up)
 
-  -- what lies below version/ lies before all behind it
+  -- what lies below version/ lies before all after it
   within : (x : List ℕ) → UpTo (version ++ 47 ∷ x) (version ++ 48 ∷ [])
   within x = append-UpTo version (47 ∷ x) (48 ∷ []) refl
 
@@ -111,7 +111,7 @@ module _ (base word version name : List ℕ) (whole : Whole version) where
   below_deeper q front rest b is up =
       to_path q (version ++ 47 ∷ (front ++ 48 ∷ [])) b (⊎_elim
       (λ inside. subst (λ v. UpTo (version ++ 47 ∷ (front ++ 48 ∷ [])) (v ++ 47 ∷ (word ++ b.rest))) (sym inside.1)
-      (append-UpTo version (47 ∷ (front ++ 48 ∷ [])) (47 ∷ (word ++ b.rest)) (segment_behind front rest (word ++ b.rest) b.whole (subst (λ n. UpTo n (word ++ b.rest)) is inside.0))))
+      (append-UpTo version (47 ∷ (front ++ 48 ∷ [])) (47 ∷ (word ++ b.rest)) (segment_after front rest (word ++ b.rest) b.whole (subst (λ n. UpTo n (word ++ b.rest)) is inside.0))))
       (λ behind. UpTo-trans (version ++ 47 ∷ (front ++ 48 ∷ [])) (version ++ 48 ∷ []) (b.version ++ 47 ∷ (word ++ b.rest)) (within (front ++ 48 ∷ [])) behind)
       (sides q b up))
 
@@ -126,7 +126,7 @@ below_deeper_less base version front rest name is =
     cmp-append base (version ++ 47 ∷ name) (version ++ 47 ∷ (front ++ 48 ∷ [])) ∙ cmp-append version (47 ∷ name) (47 ∷ (front ++ 48 ∷ []))
     ∙ ap (λ n. cmp n (front ++ 48 ∷ [])) is ∙ cmp-append front (47 ∷ rest) (48 ∷ [])
 
--- ---- before and behind the directory
+-- ---- before and after the directory
 pub in_front : (d : Directory) (base word q : List ℕ) (level : Bool) → IsWalkOf d base word level → stands_in d (file_at q) ≡ true → (x : List ℕ) × (q ≡ base ++ x)
 in_front d base word q true walk h = let a = among d base word q walk h in (word ++ a.rest, a.path)
 in_front d base word q false walk h = let b = below d base word q walk h in (b.version ++ 47 ∷ (word ++ b.rest), b.path)
@@ -134,4 +134,4 @@ in_front d base word q false walk h = let b = below d base word q walk h in (b.v
 pub past : (d : Directory) (base word path q : List ℕ) (level : Bool) → IsWalkOf d base word level → ((x : List ℕ) → path ≡ base ++ x → ⊥) → UpTo base path → stands_in d (file_at q) ≡ true → UpTo path q → ⊥
 past d base word path q level walk other up h behind =
     let f = in_front d base word q level walk h in
-    not_before (base ++ f.0) path (behind_front base path other up f.0) (subst (UpTo path) f.1 behind)
+    not_before (base ++ f.0) path (after_front base path other up f.0) (subst (UpTo path) f.1 behind)

@@ -69,40 +69,40 @@ upto_next n xs h = by_order (nat_cmp 48 n) refl
 no_slash : (n : ℕ) (xs : List ℕ) → Whole (n ∷ xs) → 47 ≡ n → ⊥
 no_slash n xs whole e = both_ways (slash n) (or_parts (slash n) _ whole).0 (eq-eqb n 47 (sym e))
 
--- a segment that does not lie before what stands below b/ lies behind all of that
-pub segment_behind : (b u name : List ℕ) → Whole name → UpTo (b ++ 47 ∷ u) name → UpTo (b ++ 48 ∷ []) name
-segment_behind [] u [] whole up = absurd (false≢true up)
-segment_behind [] u (n ∷ ns) whole up = by_order (nat_cmp 47 n) refl up
+-- a segment that does not lie before what stands below b/ lies after all of that
+pub segment_after : (b u name : List ℕ) → Whole name → UpTo (b ++ 47 ∷ u) name → UpTo (b ++ 48 ∷ []) name
+segment_after [] u [] whole up = absurd (false≢true up)
+segment_after [] u (n ∷ ns) whole up = by_order (nat_cmp 47 n) refl up
   where
     by_order : (o : Ordering) → nat_cmp 47 n ≡ o → is_le (ordering_then o (cmp u ns)) ≡ true → UpTo (48 ∷ []) (n ∷ ns)
     by_order Less e h = upto_next n ns (ranked 47 n Less (sym e))
     by_order Equal e h = absurd (no_slash n ns whole (ranked 47 n Equal (sym e)))
     by_order Greater e h = absurd (false≢true h)
-segment_behind (c ∷ b) u [] whole up = absurd (false≢true up)
-segment_behind (c ∷ b) u (n ∷ ns) whole up = by_order (nat_cmp c n) (segment_behind b u ns (or_parts (slash n) _ whole).1) up
+segment_after (c ∷ b) u [] whole up = absurd (false≢true up)
+segment_after (c ∷ b) u (n ∷ ns) whole up = by_order (nat_cmp c n) (segment_after b u ns (or_parts (slash n) _ whole).1) up
   where
     by_order : (o : Ordering) → (UpTo (b ++ 47 ∷ u) ns → UpTo (b ++ 48 ∷ []) ns) → is_le (ordering_then o (cmp (b ++ 47 ∷ u) ns)) ≡ true → is_le (ordering_then o (cmp (b ++ 48 ∷ []) ns)) ≡ true
     by_order Less rest h = refl
     by_order Equal rest h = rest h
     by_order Greater rest h = absurd (false≢true h)
 
--- what does not lie before what stands below a/ stands there too, or lies behind all of that
-pub below_or_behind : (a t v x : List ℕ) → Whole a → Whole v → UpTo (a ++ 47 ∷ t) (v ++ 47 ∷ x) → (v ≡ a) ⊎ UpTo (a ++ 48 ∷ []) (v ++ 47 ∷ x)
-below_or_behind [] t [] x whole_a whole up = inl refl
-below_or_behind [] t (n ∷ v) x whole_a whole up = by_order (nat_cmp 47 n) refl up
+-- what does not lie before what stands below a/ stands there too, or lies after all of that
+pub below_or_after : (a t v x : List ℕ) → Whole a → Whole v → UpTo (a ++ 47 ∷ t) (v ++ 47 ∷ x) → (v ≡ a) ⊎ UpTo (a ++ 48 ∷ []) (v ++ 47 ∷ x)
+below_or_after [] t [] x whole_a whole up = inl refl
+below_or_after [] t (n ∷ v) x whole_a whole up = by_order (nat_cmp 47 n) refl up
   where
     by_order : (o : Ordering) → nat_cmp 47 n ≡ o → is_le (ordering_then o (cmp t (v ++ 47 ∷ x))) ≡ true → (n ∷ v ≡ []) ⊎ UpTo (48 ∷ []) (n ∷ v ++ 47 ∷ x)
     by_order Less e h = inr (upto_next n (v ++ 47 ∷ x) (ranked 47 n Less (sym e)))
     by_order Equal e h = absurd (no_slash n v whole (ranked 47 n Equal (sym e)))
     by_order Greater e h = absurd (false≢true h)
-below_or_behind (c ∷ a) t [] x whole_a whole up = by_order (nat_cmp c 47) refl up
+below_or_after (c ∷ a) t [] x whole_a whole up = by_order (nat_cmp c 47) refl up
   where
     by_order : (o : Ordering) → nat_cmp c 47 ≡ o → is_le (ordering_then o (cmp (a ++ 47 ∷ t) x)) ≡ true → ([] ≡ c ∷ a) ⊎ (is_le (ordering_then (nat_cmp c 47) (cmp (a ++ 48 ∷ []) x)) ≡ true)
     by_order Less e h = inr (ap (λ o. is_le (ordering_then o (cmp (a ++ 48 ∷ []) x))) e)
     by_order Equal e h = absurd (no_slash c a whole_a (sym (ranked c 47 Equal (sym e))))
     by_order Greater e h = absurd (false≢true h)
-below_or_behind (c ∷ a) t (n ∷ v) x whole_a whole up =
-    by_order (nat_cmp c n) refl (below_or_behind a t v x (or_parts (slash c) _ whole_a).1 (or_parts (slash n) _ whole).1) up
+below_or_after (c ∷ a) t (n ∷ v) x whole_a whole up =
+    by_order (nat_cmp c n) refl (below_or_after a t v x (or_parts (slash c) _ whole_a).1 (or_parts (slash n) _ whole).1) up
   where
     by_order : (o : Ordering) → nat_cmp c n ≡ o → (UpTo (a ++ 47 ∷ t) (v ++ 47 ∷ x) → (v ≡ a) ⊎ UpTo (a ++ 48 ∷ []) (v ++ 47 ∷ x)) → is_le (ordering_then o (cmp (a ++ 47 ∷ t) (v ++ 47 ∷ x))) ≡ true → (n ∷ v ≡ c ∷ a) ⊎ (is_le (ordering_then (nat_cmp c n) (cmp (a ++ 48 ∷ []) (v ++ 47 ∷ x))) ≡ true)
     by_order Less e rest h = inr (ap (λ o. is_le (ordering_then o (cmp (a ++ 48 ∷ []) (v ++ 47 ∷ x)))) e)
@@ -112,11 +112,11 @@ below_or_behind (c ∷ a) t (n ∷ v) x whole_a whole up =
         (rest h)
     by_order Greater e rest h = absurd (false≢true h)
 
--- what does not begin with w and does not lie before w lies behind all that begins with it
-pub behind_front : (w p : List ℕ) → ((x : List ℕ) → p ≡ w ++ x → ⊥) → UpTo w p → (x : List ℕ) → cmp (w ++ x) p ≡ Less
-behind_front [] p other up x = absurd (other p refl)
-behind_front (c ∷ w) [] other up x = absurd (false≢true up)
-behind_front (c ∷ w) (n ∷ p) other up x = by_order (nat_cmp c n) refl (λ apart h. behind_front w p apart h x) up
+-- what does not begin with w and does not lie before w lies after all that begins with it
+pub after_front : (w p : List ℕ) → ((x : List ℕ) → p ≡ w ++ x → ⊥) → UpTo w p → (x : List ℕ) → cmp (w ++ x) p ≡ Less
+after_front [] p other up x = absurd (other p refl)
+after_front (c ∷ w) [] other up x = absurd (false≢true up)
+after_front (c ∷ w) (n ∷ p) other up x = by_order (nat_cmp c n) refl (λ apart h. after_front w p apart h x) up
   where
     by_order : (o : Ordering) → nat_cmp c n ≡ o → (((y : List ℕ) → p ≡ w ++ y → ⊥) → UpTo w p → cmp (w ++ x) p ≡ Less) → is_le (ordering_then o (cmp w p)) ≡ true
         → ordering_then (nat_cmp c n) (cmp (w ++ x) p) ≡ Less

@@ -26,7 +26,7 @@ abbrev pub gone_on : Directory → List Row → Option Document → Option (List
 gone_on d rows doc None = doc
 gone_on d rows doc (Some text) = fold (added d) doc (rest_from text rows)
 
--- a walk that began at a text goes on behind it, with fewer rows left, but not before the directory's own rows
+-- a walk that began at a text goes on after it, with fewer rows left, but not before the directory's own rows
 abbrev pub GoesOn : List ℕ → List ℕ → List Row → Option (List ℕ) → Type 0
 GoesOn base from rows None = Unit {0}
 GoesOn base from rows (Some next) = IsUpTo base next × (length (rest_from next rows) < length (rest_from from rows))

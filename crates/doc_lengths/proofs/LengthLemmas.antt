@@ -69,7 +69,7 @@ length-moment t = refl
 pub length-time : (t : CivilTime) → length (text_of_time t) ≡ 15
 length-time t = refl
 
--- lines, and others behind them
+-- lines, and others after them
 pub both : (a b : List ℕ) (x y r : ℕ) → x ≡ counted (length a) → y ≡ counted (length b) → r ≡ counted (x + y) → r ≡ counted (length (a ++ b))
 both a b x y r is is' sum = let p = length-append a b in omega (arith, is, is', sum, p)
 

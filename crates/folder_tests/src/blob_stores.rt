@@ -173,7 +173,7 @@ fn a_folder_keeps_by_number(rt: HostRuntime) {
     assert!(rt; clears(&rt, FOLDER));
 }
 
-// What was refused leaves nothing behind.
+// What was refused leaves nothing after.
 #[test]
 fn a_folder_with_a_number_is_no_blob(rt: HostRuntime) {
     assert!(rt; makes(&rt, NUMBERED) && makes(&rt, "folder_tests_numbered/7"));

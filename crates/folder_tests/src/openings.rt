@@ -91,7 +91,7 @@ fn has_no_part(rt: &HostRuntime) -> bool {
     }
 }
 
-// What a store that was stopped has left is gone behind the next opening, and nothing else is.
+// What a store that was stopped has left is gone after the next opening, and nothing else is.
 #[test]
 fn parts_are_cleared(rt: HostRuntime) {
     assert!(rt; makes(&rt, PARTS) && makes(&rt, "folder_tests_parts/blobs"));
@@ -164,7 +164,7 @@ fn refuses_over(rt: &HostRuntime, rows: &[u8]) -> bool {
 }
 
 // Contents beside a file of records that has not even its beginning are refused too. One with its beginning may be as a run has
-// left it that was stopped behind its first content.
+// left it that was stopped after its first content.
 #[test]
 fn contents_beside_less_than_a_beginning_are_refused(rt: HostRuntime) {
     assert!(rt; refuses_over(&rt, b""));

@@ -106,7 +106,7 @@ fn write_two<B: Counted>(blobs: &mut B) -> Result<B::Held, BlobFault> {
     blobs.seal(pen)
 }
 
-// One open, and one read behind the last byte.
+// One open, and one read after the last byte.
 const READ: &str = "look at pieces_whole/7
 open pieces_whole/7
 read pieces_whole/7

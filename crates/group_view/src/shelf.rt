@@ -35,7 +35,7 @@ impl GroupShelf {
         self.map.get(dir.path())
     }
 
-    /// Keeps the document of a directory, in the place of the one that is there. Where memory is wanting nothing is changed.
+    /// Keeps the document of a directory, in the place of the one that is there. When memory runs out nothing is changed.
     pub fn keep(
         &mut self,
         alloc: Global,

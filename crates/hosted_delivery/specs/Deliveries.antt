@@ -16,7 +16,7 @@ use Rattle.repo_model.specs.State.{change_where, is_row, row_at}
 use Rattle.repo_model.specs.Turn.{Turn, commit_by}
 use Rattle.repo_model.specs.Tables.{Tables}
 use Rattle.row_tables.specs.Items.{is_count, is_file_path, is_number}
-use Rattle.row_tables.specs.Stops.{HasNotCommitted, IsCommitted, IsLeftOut, Unsettled}
+use Rattle.row_tables.specs.Crashes.{HasNotCommitted, IsCommitted, IsLeftOut, Unsettled}
 use Rattle.hosted_delivery.specs.declared.judging.Other.{Other}
 use Rattle.hosted_delivery.specs.declared.put_all.PutAll.{PutAll}
 use Rattle.hosted_delivery.specs.declared.put_all.PutAll.TheVariants as did
@@ -56,12 +56,12 @@ is_done (did.Done count blobs) = true
 is_done answer = false
 
 -- what it leaves unsettled: what a commit of these items does, by its answer, and nothing where something stands against it
-abbrev pub HasPutAllStop : List Item → Option Tables → Unsettled → Unsettled → PutAll → Type 0
-HasPutAllStop items told old new (did.Offends path kept sent) = new ≡ old
-HasPutAllStop items told old new (did.MissingPom dir) = new ≡ old
-HasPutAllStop items told old new did.StoreFault = HasNotCommitted items told old new
-HasPutAllStop items told old new did.NoMemory = IsLeftOut told old new
-HasPutAllStop items told old new (did.Done count blobs) = IsCommitted items told old new
+abbrev pub HasPutAllCrash : List Item → Option Tables → Unsettled → Unsettled → PutAll → Type 0
+HasPutAllCrash items told old new (did.Offends path kept sent) = new ≡ old
+HasPutAllCrash items told old new (did.MissingPom dir) = new ≡ old
+HasPutAllCrash items told old new did.StoreFault = HasNotCommitted items told old new
+HasPutAllCrash items told old new did.NoMemory = IsLeftOut told old new
+HasPutAllCrash items told old new (did.Done count blobs) = IsCommitted items told old new
 
 -- the blobs that no row took
 abbrev pub blobs_of : PutAll → List ℕ
@@ -76,13 +76,13 @@ left_by effect = []
 abbrev pub shown_other : Other → Offence
 shown_other o = record { path = o.path.now; kept = o.kept; sent = o.sent }
 
--- the answer names it, or memory was wanting
+-- the answer names it, or memory ran out
 abbrev pub NamesOther : Other → PutAll → Type 0
 NamesOther o (did.Offends path kept sent) = shown_other o ≡ record { path = path; kept = kept; sent = sent }
 NamesOther o did.NoMemory = Unit {0}
 NamesOther o answer = ⊥
 
--- nothing stands against it, or the answer says what does, or memory was wanting
+-- nothing stands against it, or the answer says what does, or memory ran out
 abbrev pub IsJudged : List plain.Row → List plain.Staged → Result (Unit {0}) PutAll → Type 0
 IsJudged rows files (Ok done) = (offence rows files ≡ None) × (without_pom rows files ≡ None)
 IsJudged rows files (Err (did.Offends path kept sent)) = offence rows files ≡ Some (record { path = path; kept = kept; sent = sent })

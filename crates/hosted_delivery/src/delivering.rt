@@ -14,7 +14,7 @@ ghost use Rattle.row_tables.specs.declared.version.Version.TheVariants.{Second};
 ghost use Rattle.hosted_delivery.specs.Deliveries.{free_paths, is_recordable, left_by, rows_without, session_with, shown_files, with_file, with_files, with_listed, with_listed_by, without_put, without_puts};
 ghost use Rattle.ordered_rows.specs.Recording.{FitWhereTold, IsShort};
 ghost use Rattle.row_tables.specs.Records.{HasCommitCause};
-ghost use Rattle.row_tables.specs.Stops.{HasCommitStop};
+ghost use Rattle.row_tables.specs.Crashes.{HasCommitCrash};
 ghost use Rattle.ordered_rows.specs.Rows.{rows_after_all, shown_at, shown_rows};
 
 use ordered_rows::{CountedRows, Phase, Row, find, print_of, sizes};
@@ -176,7 +176,7 @@ fn add_new<H: Held>(
     }
 }
 
-/// Adds a visible row for each file whose path has none. Where memory is wanting some of them are added.
+/// Adds a visible row for each file whose path has none. When memory runs out some of them are added.
 fn add_all_new<H: Held>(
     alloc: Global,
     rows: &mut CountedRows<H>,
@@ -251,7 +251,7 @@ fn add_and_commit<H: Held, K: Records>(
     ensures recorded { OnOk result (K.tables records.new ≡ tables_with change.now (K.tables records.old)) }
     ensures untold { OnErr result (K.tables records.new ≡ K.tables records.old) }
     ensures cause { HasCommitCause (K.faults records.old) (K.faults records.new) result }
-    ensures stops { HasCommitStop change.now (K.tables records.old) (K.unsettled records.old) (K.unsettled records.new) result }
+    ensures crashes { HasCommitCrash change.now (K.tables records.old) (K.unsettled records.old) (K.unsettled records.new) result }
     ensures ready { K.ready records.new }
 {
     add_all_new(alloc, rows, staged, now)?;
@@ -307,7 +307,7 @@ pub fn deliver<H: Held, K: Records>(
         ≡ tables_with (items_by (deliver_all (session_with repo.now (shown_files staged.now.entries)) now rows.old) ++ also ∷ []) (K.tables records.old)) }
     ensures untold { OnErr result (K.tables records.new ≡ K.tables records.old) }
     ensures cause { HasCommitCause (K.faults records.old) (K.faults records.new) result }
-    ensures stops { HasCommitStop (items_by (deliver_all (session_with repo.now (shown_files staged.now.entries)) now rows.old) ++ also ∷ [])
+    ensures crashes { HasCommitCrash (items_by (deliver_all (session_with repo.now (shown_files staged.now.entries)) now rows.old) ++ also ∷ [])
         (K.tables records.old) (K.unsettled records.old) (K.unsettled records.new) result }
     ensures ready { K.ready records.new }
 {

@@ -30,7 +30,7 @@ first_out row rows h =
     ap (λ b. cond (not b) (row ∷ without_row row.path rows) (without_row row.path rows)) ((bytes_eq-Decides row.path row.path).1 refl)
     ∙ apart row.path rows h
 
--- what comes behind a row goes without it
+-- what comes after a row goes without it
 first_stays : (n grace now : ℕ) (repo : List ℕ) (row : plain.Row) (rows more : List plain.Row) → AreAfter row.path more
     → rows_after_all (take n (gone grace now repo more)) (row ∷ rows) ≡ row ∷ rows_after_all (take n (gone grace now repo more)) rows
 first_stays zero grace now repo row rows more h = refl

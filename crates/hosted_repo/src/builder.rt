@@ -42,7 +42,7 @@ fn draft_row(
     }
 }
 
-// Adds a row at a path that has none, and what it makes of documents. Where memory is wanting its parcel comes back.
+// Adds a row at a path that has none, and what it makes of documents. When memory runs out its parcel comes back.
 fn add_row<H: Held>(
     alloc: Global,
     rows: &mut CountedRows<H>,
@@ -121,7 +121,7 @@ impl<H: Held> HostedBuilder<H> {
         self.rule.id.as_str() == id
     }
 
-    /// Takes up a row that is recorded, as it was kept. Only a snapshot's is unlisted. Nothing is recorded anew. Where memory is wanting
+    /// Takes up a row that is recorded, as it was kept. Only a snapshot's is unlisted. Nothing is recorded anew. When memory runs out
     /// the parcel comes back, and all rows are let go.
     pub fn restore(
         &mut self,

@@ -12,7 +12,7 @@ ghost use Rattle.repo_model.specs.Purge.{most_rows};
 ghost use Rattle.row_tables.specs.Commits.{tables_with};
 ghost use Rattle.row_tables.specs.Items.{is_id, is_item, is_of, item_bytes};
 ghost use Rattle.row_tables.specs.Records.{HasCommitCause};
-ghost use Rattle.row_tables.specs.Stops.{HasCommitStop};
+ghost use Rattle.row_tables.specs.Crashes.{HasCommitCrash};
 ghost use Rattle.row_tables.specs.declared.version.Version.TheVariants.{Second};
 ghost use Rattle.ordered_rows.specs.Recording.{FitWhereTold};
 ghost use Rattle.ordered_rows.specs.Rows.{rows_after_all, shown_at, shown_rows};
@@ -129,7 +129,7 @@ pub fn deliver_all<H: Held, K: Records>(
         ≡ tables_with (items_by (deliver_all (session_with repo.now (shown_files staged.now.entries)) now rows.old) ++ also ∷ []) (K.tables records.old)) }
     ensures untold { OnErr result (K.tables records.new ≡ K.tables records.old) }
     ensures cause { HasCommitCause (K.faults records.old) (K.faults records.new) result }
-    ensures stops { HasCommitStop (items_by (deliver_all (session_with repo.now (shown_files staged.now.entries)) now rows.old) ++ also ∷ [])
+    ensures crashes { HasCommitCrash (items_by (deliver_all (session_with repo.now (shown_files staged.now.entries)) now rows.old) ++ also ∷ [])
         (K.tables records.old) (K.unsettled records.old) (K.unsettled records.new) result }
     ensures ready { K.ready records.new }
 {

@@ -18,11 +18,11 @@ ghost use Rattle.repo_model.specs.Turn.{seen_at};
 ghost use Rattle.row_tables.specs.Commits.{tables_with};
 ghost use Rattle.row_tables.specs.Items.{is_file_path, is_id, is_item, is_number, is_of, item_bytes};
 ghost use Rattle.row_tables.specs.declared.version.Version.TheVariants.{Second};
-ghost use Rattle.hosted_delivery.specs.Deliveries.{HasPutAllStop, blobs_of, deliveries, delivery, is_done, is_recordable, left_by, shown_files, shown_put_all};
+ghost use Rattle.hosted_delivery.specs.Deliveries.{HasPutAllCrash, blobs_of, deliveries, delivery, is_done, is_recordable, left_by, shown_files, shown_put_all};
 ghost use Rattle.hosted_repo.specs.Expired.{blob_of};
 ghost use Rattle.ordered_rows.specs.Recording.{FitWhereTold, HasReplyCause, IsRemoved};
 ghost use Rattle.row_tables.specs.Records.{HasCommitCause};
-ghost use Rattle.row_tables.specs.Stops.{HasCommitStop, HasReplyStop};
+ghost use Rattle.row_tables.specs.Crashes.{HasCommitCrash, HasReplyCrash};
 ghost use Rattle.directory_rows.specs.Rules.{shown_rule};
 ghost use Rattle.hosted_repo.specs.Releases.{FadesAt};
 ghost use Rattle.hosted_repo.specs.Releases.{AllFadeRightly};
@@ -157,8 +157,8 @@ impl<H: Held> Hosted<H> {
         ensures tables { let turn = put_turn self.old path.now (shown_parcel parcel) now in
             K.tables records.new ≡ (if is_free (shown_put result) then K.tables records.old else tables_with (recorded turn.effects) (K.tables records.old)) }
         ensures cause { HasReplyCause (K.faults records.old) (K.faults records.new) (shown_put result) }
-        ensures stops { let turn = put_turn self.old path.now (shown_parcel parcel) now in
-            HasReplyStop (recorded turn.effects) (K.tables records.old) (K.unsettled records.old) (K.unsettled records.new) (shown_put result) }
+        ensures crashes { let turn = put_turn self.old path.now (shown_parcel parcel) now in
+            HasReplyCrash (recorded turn.effects) (K.tables records.old) (K.unsettled records.old) (K.unsettled records.new) (shown_put result) }
         ensures ready { K.ready records.new }
         ensures parcel { GivesBack result parcel }
     {
@@ -191,7 +191,7 @@ impl<H: Held> Hosted<H> {
         ensures tables { K.tables records.new ≡ (if is_free (shown_put result) then K.tables records.old
             else tables_with (HostedPut self.old.rule.id path.now parcel.blob (recorded_print (shown_print parcel)) now ∷ []) (K.tables records.old)) }
         ensures cause { HasReplyCause (K.faults records.old) (K.faults records.new) (shown_put result) }
-        ensures stops { HasReplyStop (HostedPut self.old.rule.id path.now parcel.blob (recorded_print (shown_print parcel)) now ∷ [])
+        ensures crashes { HasReplyCrash (HostedPut self.old.rule.id path.now parcel.blob (recorded_print (shown_print parcel)) now ∷ [])
             (K.tables records.old) (K.unsettled records.old) (K.unsettled records.new) (shown_put result) }
         ensures ready { K.ready records.new }
         ensures parcel { GivesBack result parcel }
@@ -234,7 +234,7 @@ impl<H: Held> Hosted<H> {
         ensures tables { K.tables records.new ≡ (if is_free (shown_put result) then K.tables records.old
             else tables_with (Relisted self.old.rule.id path.now now ∷ []) (K.tables records.old)) }
         ensures cause { HasReplyCause (K.faults records.old) (K.faults records.new) (shown_put result) }
-        ensures stops { HasReplyStop (Relisted self.old.rule.id path.now now ∷ []) (K.tables records.old) (K.unsettled records.old) (K.unsettled records.new) (shown_put result) }
+        ensures crashes { HasReplyCrash (Relisted self.old.rule.id path.now now ∷ []) (K.tables records.old) (K.unsettled records.old) (K.unsettled records.new) (shown_put result) }
         ensures ready { K.ready records.new }
         ensures parcel { GivesBack result parcel }
     {
@@ -282,7 +282,7 @@ impl<H: Held> Hosted<H> {
         ensures tables { K.tables records.new ≡ (if is_done result
             then tables_with (recorded (deliveries self.old (shown_files staged.now.entries) now) ++ also ∷ []) (K.tables records.old) else K.tables records.old) }
         ensures cause { HasReplyCause (K.faults records.old) (K.faults records.new) (shown_put_all result) }
-        ensures stops { HasPutAllStop (recorded (deliveries self.old (shown_files staged.now.entries) now) ++ also ∷ []) (K.tables records.old) (K.unsettled records.old) (K.unsettled records.new) result }
+        ensures crashes { HasPutAllCrash (recorded (deliveries self.old (shown_files staged.now.entries) now) ++ also ∷ []) (K.tables records.old) (K.unsettled records.old) (K.unsettled records.new) result }
         ensures ready { K.ready records.new }
     {
         if let Err(answer) = judge(self.alloc, self.rows.map(), staged) {
@@ -366,7 +366,7 @@ impl<H: Held> Hosted<H> {
         ensures untold { OnErr result (K.tables records.new ≡ K.tables records.old) }
         ensures cause { HasCommitCause (K.faults records.old) (K.faults records.new) result }
         ensures asked { result ≡ Err CommitFault.Failed → recorded (fade_all self.old now) ≢ [] }
-        ensures stops { HasCommitStop (recorded (fade_all self.old now)) (K.tables records.old) (K.unsettled records.old) (K.unsettled records.new) result }
+        ensures crashes { HasCommitCrash (recorded (fade_all self.old now)) (K.tables records.old) (K.unsettled records.old) (K.unsettled records.new) result }
         ensures ready { K.ready records.new }
 
         // All files and their side files are answered as before.
@@ -385,7 +385,7 @@ impl<H: Held> Hosted<H> {
 
     /// The first rows whose grace period, in seconds, is over at a moment, in byte order of path: what `drop_expired` takes
     /// away with their count. Their removals are added to a change while it has fewer than 1,000,000 items, and their blobs to
-    /// a list; it gives how many there are. Where memory is wanting both are as before.
+    /// a list; it gives how many there are. When memory runs out both are as before.
     pub fn expiring(
         &self,
         grace: u64,

@@ -19,7 +19,7 @@ ghost use Rattle.hosted_repo.specs.Fades.{fade_at_paths};
 ghost use Rattle.hosted_repo.specs.Expired.{shown_expired};
 ghost use Rattle.ordered_rows.specs.Recording.{FitWhereTold};
 ghost use Rattle.row_tables.specs.Records.{HasCommitCause};
-ghost use Rattle.row_tables.specs.Stops.{HasCommitStop};
+ghost use Rattle.row_tables.specs.Crashes.{HasCommitCrash};
 ghost use Rattle.hosted_repo.specs.Fades.{hosted_of};
 ghost use Rattle.ordered_rows.specs.Rows.{is_before, rows_after_all, shown_rows};
 ghost use Rattle.directory_rows.specs.Rules.{shown_rule};
@@ -124,7 +124,7 @@ fn record_faded<H: Held, K: Records>(
     ensures tables { OnOk result (K.tables records.new ≡ tables_with change.now (K.tables records.old)) }
     ensures untold { OnErr result (K.tables records.new ≡ K.tables records.old) }
     ensures cause { HasCommitCause (K.faults records.old) (K.faults records.new) result }
-    ensures stops { HasCommitStop change.now (K.tables records.old) (K.unsettled records.old) (K.unsettled records.new) result }
+    ensures crashes { HasCommitCrash change.now (K.tables records.old) (K.unsettled records.old) (K.unsettled records.new) result }
     ensures ready { K.ready records.new }
 {
     let drafts = drafts_of(alloc, rows, paths)?;
@@ -162,7 +162,7 @@ pub fn unlist_rows<H: Held, K: Records>(
     ensures untold { OnErr result (K.tables records.new ≡ K.tables records.old) }
     ensures cause { HasCommitCause (K.faults records.old) (K.faults records.new) result }
     ensures asked { result ≡ Err CommitFault.Failed → recorded (fade_all (hosted_of rule.now rows.old) now) ≢ [] }
-    ensures stops { HasCommitStop (recorded (fade_all (hosted_of rule.now rows.old) now)) (K.tables records.old) (K.unsettled records.old) (K.unsettled records.new) result }
+    ensures crashes { HasCommitCrash (recorded (fade_all (hosted_of rule.now rows.old) now)) (K.tables records.old) (K.unsettled records.old) (K.unsettled records.new) result }
     ensures ready { K.ready records.new }
 {
     let paths = due_paths(alloc, rows, rule, now)?;
@@ -227,7 +227,7 @@ fn expired_rows<H: Held>(
     Ok(found)
 }
 
-/// Adds the removals of rows to a change and their blobs to a list, and gives how many there are. Where memory is wanting
+/// Adds the removals of rows to a change and their blobs to a list, and gives how many there are. When memory runs out
 /// both are as before.
 pub fn add_gone(
     alloc: Global,

@@ -10,7 +10,7 @@ ghost use Rattle.repo_model.specs.State.{change_where, is_row, row_at};
 ghost use Rattle.row_tables.specs.Commits.{tables_with};
 ghost use Rattle.row_tables.specs.Items.{IsChange};
 ghost use Rattle.row_tables.specs.Records.{HasCommitCause};
-ghost use Rattle.row_tables.specs.Stops.{HasCommitStop};
+ghost use Rattle.row_tables.specs.Crashes.{HasCommitCrash};
 ghost use Rattle.ordered_rows.specs.Recording.{FitWhereTold};
 ghost use Rattle.kept_docs.specs.Kept.{AreOf};
 ghost use Rattle.hosted_repo.specs.Releases.{FadesAt};
@@ -47,7 +47,7 @@ pub fn create<H: Held, K: Records>(
         ≡ tables_with (HostedPut repo.now path.now parcel.now.blob (recorded_print (shown_print parcel.now)) accepted ∷ []) (K.tables records.old)) }
     ensures untold { OnErr result (K.tables records.new ≡ K.tables records.old) }
     ensures cause { HasCommitCause (K.faults records.old) (K.faults records.new) result }
-    ensures stops { HasCommitStop (HostedPut repo.now path.now parcel.now.blob (recorded_print (shown_print parcel.now)) accepted ∷ []) (K.tables records.old) (K.unsettled records.old) (K.unsettled records.new) result }
+    ensures crashes { HasCommitCrash (HostedPut repo.now path.now parcel.now.blob (recorded_print (shown_print parcel.now)) accepted ∷ []) (K.tables records.old) (K.unsettled records.old) (K.unsettled records.new) result }
     ensures ready { K.ready records.new }
 {
     let change = put_change(alloc, repo, path, parcel.blob, print_of(parcel), accepted)?;
@@ -93,7 +93,7 @@ pub fn relist<H: Held, K: Records>(
     ensures recorded { OnOk result (K.tables records.new ≡ tables_with (Relisted repo.now path.now accepted ∷ []) (K.tables records.old)) }
     ensures untold { OnErr result (K.tables records.new ≡ K.tables records.old) }
     ensures cause { HasCommitCause (K.faults records.old) (K.faults records.new) result }
-    ensures stops { HasCommitStop (Relisted repo.now path.now accepted ∷ []) (K.tables records.old) (K.unsettled records.old) (K.unsettled records.new) result }
+    ensures crashes { HasCommitCrash (Relisted repo.now path.now accepted ∷ []) (K.tables records.old) (K.unsettled records.old) (K.unsettled records.new) result }
     ensures ready { K.ready records.new }
 {
     // Its contract says that each path stands once.

@@ -29,7 +29,7 @@ pub front-at : (bytes : List ℕ) (place : Option (ℕ × ℕ)) → head_place (
 unfolding front
 front-at bytes place is = ap (front_at bytes) is
 
--- a whole head is held, and more bytes are behind
+-- a whole head is held, and more bytes are after
 pub front_found : (held more : List ℕ) (start end : ℕ) → length held ≤ 8192 → IsHeadAt held start end
     → front (held ++ more) ≡ judged (slice_range held start end) (drop end held ++ more)
 front_found held more start end room h =
@@ -62,7 +62,7 @@ front_end held room none =
 
 -- ---- the front stays
 
--- the same head, or the same refusal, with more behind it
+-- the same head, or the same refusal, with more after it
 pub record StaysWith (more : List ℕ) (now later : Front) : Type 0 where
   pub whole : (head : Head) (rest : List ℕ) → now ≡ Whole head rest → later ≡ Whole head (rest ++ more)
   pub bad : (fault : HeadFault) → now ≡ Bad fault → later ≡ Bad fault

@@ -117,7 +117,7 @@ open_start bytes = record {
     id None = refl
     id (Some p) = ap Some (pair p.0 p.1 (0 + p.0) (0 + p.1) (omega arith) (omega arith))
 
--- more bytes behind those that were looked at
+-- more bytes after those that were looked at
 pub open_more : {bytes : List ℕ} {start line at : ℕ} → IsOpen bytes start line at → (more : List ℕ) → IsOpen (bytes ++ more) start line at
 open_more {bytes} {start} {line} {at} h more = record {
   started = h.started;

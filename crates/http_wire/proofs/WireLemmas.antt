@@ -39,7 +39,7 @@ take-moved buffer moved start end ordered within is =
     ap (λ (l : List ℕ). take (end - start) l) split
     ∙ take_at (slice_range buffer start end) behind (end - start) (length-slice_range buffer start end ordered within)
 
--- what was read behind the bytes at the front
+-- what was read after the bytes at the front
 pub grown : (buffer held : List ℕ) (kept count : ℕ) (left left_after : Option (List ℕ)) → take kept buffer ≡ held
     → kept + count ≤ length buffer → left ≡ in_front (slice_range buffer kept (kept + count)) left_after
     → Grows held left (slice_range buffer 0 (kept + count)) left_after count
@@ -128,7 +128,7 @@ taken_none held lent start end room at same whole more = (
 
 -- ---- a body
 
--- what was read behind the bytes that had come, into room that was filled up with zeros; the rest is cut off
+-- what was read after the bytes that had come, into room that was filled up with zeros; the rest is cut off
 pub came_behind : (held zeros row lent buffer past behind after : List ℕ) (size count asked end : ℕ) (left left_after : Option (List ℕ))
     → length held ≡ size → size ≤ asked → lent ≡ row → row ≡ take asked held ++ zeros → count ≤ length buffer → size + count ≤ end
     → after ≡ take (size + count) (take end ((take size lent ++ (buffer ++ past)) ++ behind)) → left ≡ in_front (take count buffer) left_after
@@ -191,7 +191,7 @@ body_gone held gone left left_after from = ap (unread held) from ∙ by_left lef
     by_left None = refl
     by_left (Some more) = ap Some (sym (append_assoc held gone more))
 
--- bytes that come behind others that came
+-- bytes that come after others that came
 pub came_on : (first second third : List ℕ) (n m : ℕ) (a b c : Option (List ℕ)) → Grows first a second b n → Grows second b third c m
     → Grows first a third c (n + m)
 came_on first second third n m a b c one two = (

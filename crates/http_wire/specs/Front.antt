@@ -30,7 +30,7 @@ empty_line_end (b ∷ bytes) =
     else (if b == line_feed && (begins_with carriage_return bytes && begins_with line_feed (drop 1 bytes)) then Some 3
     else option_map (λ n. 1 + n) (empty_line_end bytes))
 
--- where the first whole head of the bytes begins, behind the blank lines, and where it ends
+-- where the first whole head of the bytes begins, after the blank lines, and where it ends
 unfoldable pub head_place : List ℕ → Option (ℕ × ℕ)
 head_place bytes =
     let start = blank_length bytes in
@@ -44,7 +44,7 @@ pub data Front : Type 0 where
   Cut : Front
   -- a head that is refused
   Bad : HeadFault → Front
-  -- a whole head, and the bytes behind it
+  -- a whole head, and the bytes after it
   Whole : Head → List ℕ → Front
 
 -- the head that was read, or none

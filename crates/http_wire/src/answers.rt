@@ -54,7 +54,7 @@ pub struct Answer {
     pub allow: Option<Text>,
     /// Whether the connection ends after the answer.
     pub close: bool,
-    /// The bytes that are sent right behind the head.
+    /// The bytes that are sent right after the head.
     pub body: Bytes,
 }
 

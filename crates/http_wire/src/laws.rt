@@ -18,7 +18,7 @@ pub fn head_is_of_the_grammar()
         → tree.blank ≡ [] → head_of bytes ≡ Some (head_said tree) }
 {}
 
-/// More bytes behind a stream don't change a whole or a refused head at its front.
+/// More bytes after a stream don't change a whole or a refused head at its front.
 pub fn front_stays()
     ensures whole { (bytes more : List ℕ) (head : Head) (rest : List ℕ) → front bytes ≡ Whole head rest
         → front (bytes ++ more) ≡ Whole head (rest ++ more) }
@@ -26,7 +26,7 @@ pub fn front_stays()
         → front (bytes ++ more) ≡ Bad fault }
 {}
 
-/// The body stands right behind the head, which doesn't depend on it.
+/// The body stands right after the head, which doesn't depend on it.
 pub fn body_follows_head()
     ensures { (answer : Answer) → shown answer ≡ shown (record answer { body = [] }) ++ answer.body }
 {}

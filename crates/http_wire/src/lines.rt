@@ -93,7 +93,7 @@ fn push_status(bytes: &mut Vec<u8>, status: Status) -> Result<(), AllocError>
     Ok(())
 }
 
-/// Puts the head of the answer behind the bytes.
+/// Puts the head of the answer after the bytes.
 pub(crate) fn push_head(bytes: &mut Vec<u8>, answer: &Answer) -> Result<(), AllocError>
     ensures { OnOk result (bytes.new.items ≡ bytes.old.items ++ head_shown answer.now) }
 {

@@ -41,7 +41,7 @@ impl Wire {
     }
 
     /// Takes some of the next `left` bytes from the wire, or where it holds none by one read of the source, into the front of
-    /// `buffer`, and says how many. It takes no memory. What stands in `buffer` behind them isn't said.
+    /// `buffer`, and says how many. It takes no memory. What stands in `buffer` after them isn't said.
     ///
     /// After `Torn` the stream is at its end, and was before. After `SourceFault` no byte is gone. Where the wire holds a byte
     /// the source isn't read.

@@ -56,8 +56,8 @@ fn move_to_front(buffer: &mut [u8], start: usize, end: usize)
     buffer[..end].rotate_left(start);
 }
 
-/// Reads once into the part behind the first `held` bytes.
-fn read_behind<S: Source>(source: &mut S, buffer: &mut [u8], held: usize) -> Result<usize, Failed>
+/// Reads once into the part after the first `held` bytes.
+fn read_after<S: Source>(source: &mut S, buffer: &mut [u8], held: usize) -> Result<usize, Failed>
     requires { held < length buffer.old }
     ensures cause { HasCause (S.read_faults source.old) (S.read_faults source.new) result }
     ensures kept { take held buffer.new ≡ take held buffer.old }
@@ -184,7 +184,7 @@ impl Wire {
         move_to_front(&mut self.buffer, self.start, self.end);
         self.end -= self.start;
         self.start = 0;
-        let count = read_behind(source, &mut self.buffer, self.end)?;
+        let count = read_after(source, &mut self.buffer, self.end)?;
         self.end += count;
         Ok(count)
     }

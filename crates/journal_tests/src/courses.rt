@@ -13,7 +13,7 @@ pub struct Course<'a> {
     // The calls of the disk that fail, and how many bytes such a write still writes.
     pub failing: &'a [u64],
     pub part: u64,
-    // Behind how many calls of its disk the program is stopped.
+    // After how many calls of its disk the program is stopped.
     pub calls: u64,
     pub first: &'a [u8],
     pub loads_again: bool,
@@ -22,7 +22,7 @@ pub struct Course<'a> {
 }
 
 impl<'a> Course<'a> {
-    /// Nothing fails, nothing is committed, and the program is stopped behind so many calls.
+    /// Nothing fails, nothing is committed, and the program is stopped after so many calls.
     pub fn load(file: &'a [u8], calls: u64) -> Course<'a> {
         Course {
             file,
@@ -72,7 +72,7 @@ fn goes_on<R: Records>(alloc: Global, records: &mut R, course: &Course<'_>) -> (
     (second, third)
 }
 
-// What comes behind the load.
+// What comes after the load.
 fn begins<R: Records>(alloc: Global, records: &mut R, course: &Course<'_>) -> Ends
     requires ready { R.ready records.old }
     requires untold { R.tables records.old ≡ None }

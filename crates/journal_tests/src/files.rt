@@ -1,10 +1,10 @@
-// A journal over a file of the system, of a program that is stopped behind each call of its disk: the next start finds the
+// A journal over a file of the system, of a program that is stopped after each call of its disk: the next start finds the
 // tables from before, or these and the one change, and goes on from there.
 ghost use Rattle.std.specs.Prelude.{◌≡◌, None, IfOk};
 ghost use Rattle.record_journal.specs.Journal.{tables_of};
 
+use crate::crashing::Crashing;
 use crate::starts::{End, ONE_SESSION, commits, last_session, opened, opens, over};
-use crate::stopping::Stopping;
 use record_disk::FileDisk;
 use record_journal::Journal;
 use row_tables::{Records, Tables};
@@ -17,8 +17,8 @@ const FOLDER: &str = "journal_tests_file";
 
 const FILE: &str = "journal_tests_file/rows";
 
-// A start over the file, which is made where it is missing, of a program that is stopped behind so many calls.
-fn start(rt: &HostRuntime, calls: u64) -> io::Result<Journal<Stopping<FileDisk<File>>>>
+// A start over the file, which is made where it is missing, of a program that is stopped after so many calls.
+fn start(rt: &HostRuntime, calls: u64) -> io::Result<Journal<Crashing<FileDisk<File>>>>
     ensures { IfOk result (λ j. tables_of j ≡ None) }
 {
     let mut how = OpenOptions::new();
@@ -34,7 +34,7 @@ fn make_folder(rt: &HostRuntime, file: &[u8]) -> io::Result<()> {
     fs::write(rt, FILE, file)
 }
 
-// Opens the session behind the last one of these tables.
+// Opens the session after the last one of these tables.
 fn opens_next<R: Records>(alloc: Global, records: &mut R, tables: Tables) -> Option<u8>
     requires ready { R.ready records.old }
     requires untold { R.tables records.old ≡ None }
@@ -46,7 +46,7 @@ fn opens_next<R: Records>(alloc: Global, records: &mut R, tables: Tables) -> Opt
     }
 }
 
-// The last session that records have, behind which the next one is opened.
+// The last session that records have, after which the next one is opened.
 fn continues<R: Records>(alloc: Global, records: &mut R) -> Option<u8>
     requires { R.tables records.old ≡ None }
 {
@@ -62,17 +62,17 @@ fn goes_on(rt: &HostRuntime) -> Option<u8> {
     continues(rt.alloc(), &mut journal)
 }
 
-// A program opens the session behind this one, and is stopped behind so many calls: whether it got there, and the last
+// A program opens the session after this one, and is stopped after so many calls: whether it got there, and the last
 // session that the next start finds, which begins while the file of the first one is still open.
-fn stopped_behind(rt: &HostRuntime, before: u8, calls: u64) -> Option<(bool, u8)> {
+fn crashed_after(rt: &HostRuntime, before: u8, calls: u64) -> Option<(bool, u8)> {
     let mut journal = start(rt, calls).ok()?;
     let made = opens(rt.alloc(), &mut journal, before.saturating_add(1));
     Some((made, goes_on(rt)?))
 }
 
-// In `whole` calls such a program gets there. What the next start opens is there for the one behind it.
-fn stops_well(rt: &HostRuntime, before: u8, calls: u64, whole: u64) -> Option<bool> {
-    let (made, found) = stopped_behind(rt, before, calls)?;
+// In `whole` calls such a program gets there. What the next start opens is there for the one after it.
+fn crashes_well(rt: &HostRuntime, before: u8, calls: u64, whole: u64) -> Option<bool> {
+    let (made, found) = crashed_after(rt, before, calls)?;
     let next = goes_on(rt)?;
     let after = before.saturating_add(1);
     let well = found == after || (found == before && !made);
@@ -80,17 +80,17 @@ fn stops_well(rt: &HostRuntime, before: u8, calls: u64, whole: u64) -> Option<bo
 }
 
 // Whether that is so over this file.
-fn stops_well_over(rt: &HostRuntime, file: &[u8], before: u8, calls: u64, whole: u64) -> bool {
-    make_folder(rt, file).is_ok() && stops_well(rt, before, calls, whole).unwrap_or(false)
+fn crashes_well_over(rt: &HostRuntime, file: &[u8], before: u8, calls: u64, whole: u64) -> bool {
+    make_folder(rt, file).is_ok() && crashes_well(rt, before, calls, whole).unwrap_or(false)
 }
 
 // The first number of calls of which that is not so, over a new file and over one with a session.
-fn bad_stop(rt: &HostRuntime) -> Option<u64> {
+fn bad_crash(rt: &HostRuntime) -> Option<u64> {
     for calls in 0..14 {
-        if !stops_well_over(rt, b"", 0, calls, 9) {
+        if !crashes_well_over(rt, b"", 0, calls, 9) {
             return Some(calls);
         }
-        if !stops_well_over(rt, &ONE_SESSION, 1, calls, 7) {
+        if !crashes_well_over(rt, &ONE_SESSION, 1, calls, 7) {
             return Some(calls);
         }
     }
@@ -106,8 +106,8 @@ fn leaves_its_bytes(rt: &HostRuntime) -> io::Result<bool> {
 }
 
 #[test]
-fn a_file_outlasts_a_stop_behind_each_call(rt: HostRuntime) -> Result<(), Fail> {
-    assert_eq!(rt; bad_stop(&rt), None);
+fn a_file_outlasts_a_crash_after_each_call(rt: HostRuntime) -> Result<(), Fail> {
+    assert_eq!(rt; bad_crash(&rt), None);
     assert!(rt; leaves_its_bytes(&rt)?);
     fs::remove_dir_all(&rt, FOLDER)?;
     Ok(())

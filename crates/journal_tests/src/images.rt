@@ -14,7 +14,7 @@ fn overwritten(alloc: Global, file: &[u8], at: usize, bytes: &[u8]) -> Result<Ve
     Ok(next)
 }
 
-// What a crash may leave of a file behind a write of `size` bytes of which these were put: the first of them, and what
+// What a crash may leave of a file after a write of `size` bytes of which these were put: the first of them, and what
 // follows is as it was, or junk.
 fn push_front(
     alloc: Global,
@@ -33,7 +33,7 @@ fn push_front(
     Ok(())
 }
 
-// The file with all bytes that were put, and then torn behind each of them.
+// The file with all bytes that were put, and then torn after each of them.
 fn push_torn(
     alloc: Global,
     files: &mut Vec<Vec<u8>>,
@@ -50,7 +50,7 @@ fn push_torn(
     Ok(())
 }
 
-// What a crash may leave of this file behind one call more; first where all of it was made that was.
+// What a crash may leave of this file after one call more; first where all of it was made that was.
 fn push_after(
     alloc: Global,
     files: &mut Vec<Vec<u8>>,
@@ -123,7 +123,7 @@ pub fn disk_of(alloc: Global, file: &[u8], script: DiskScript) -> Result<MemDisk
     MemDisk::new(alloc, file, room, script)
 }
 
-// Whether a crash may leave just these files of the disk, which have a comma behind each.
+// Whether a crash may leave just these files of the disk, which have a comma after each.
 fn may_leave(alloc: Global, disk: &MemDisk, files: &[u8]) -> Result<bool, AllocError> {
     let mut text = Vec::new(alloc);
     for image in images_of(alloc, disk)? {

@@ -7,6 +7,10 @@ mod bytes;
 #[cfg(test)]
 mod courses;
 #[cfg(test)]
+mod crashes;
+#[cfg(test)]
+mod crashing;
+#[cfg(test)]
 mod disks;
 #[cfg(test)]
 mod files;
@@ -14,7 +18,3 @@ mod files;
 mod images;
 #[cfg(test)]
 mod starts;
-#[cfg(test)]
-mod stopping;
-#[cfg(test)]
-mod stops;

@@ -3,8 +3,8 @@
 ghost use Rattle.std.specs.Prelude.{◌≡◌, None, IfOk};
 ghost use Rattle.record_journal.specs.Journal.{tables_of};
 
+use crate::crashing::Crashing;
 use crate::images::disk_of;
-use crate::stopping::Stopping;
 use record_disk::{Disk, DiskScript, MemDisk};
 use record_journal::Journal;
 use repo_rows::take;
@@ -12,7 +12,7 @@ use row_tables::{ApplyFault, Change, CommitFault, Records, Tables};
 use std::alloc::{AllocError, Global};
 
 // A journal over a disk in memory.
-pub type MemJournal = Journal<Stopping<MemDisk>>;
+pub type MemJournal = Journal<Crashing<MemDisk>>;
 
 // The files of a journal without a change, and of one with the change of the first session.
 pub const NEW: [u8; 9] = *b"MVNROWS1\0";
@@ -26,11 +26,11 @@ pub fn opened(number: u8) -> [u8; 14] {
     bytes
 }
 
-// A journal over a disk that is stopped behind so many calls.
-pub fn over<D: Disk + Drop>(disk: D, calls: u64) -> Journal<Stopping<D>>
+// A journal over a disk that is stopped after so many calls.
+pub fn over<D: Disk + Drop>(disk: D, calls: u64) -> Journal<Crashing<D>>
     ensures { tables_of result ≡ None }
 {
-    Journal::new(Stopping::new(disk, calls))
+    Journal::new(Crashing::new(disk, calls))
 }
 
 // The same over a disk in memory with this file, of which these calls fail when so many bytes are written.

@@ -50,7 +50,7 @@ pub fn count<R: Threads + Wait + Sync>(
     all_call(rt, alloc, &turns, seat, others, calls)
 }
 
-// Gives what a call behind all others is answered.
+// Gives what a call after all others is answered.
 fn all_call<T: Thing<Call = u64, Reply = u64> + Send, R: Threads + Wait + Sync>(
     rt: &R,
     alloc: Global,

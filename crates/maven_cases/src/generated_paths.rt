@@ -12,10 +12,10 @@ const ARTIFACTS: &str = "lib l.b lib-1.0 lib lib l+b";
 const VERSIONS: &str =
     "1.0 1.1-SNAPSHOT 1.0.jar 1-SNAPSHOT 2+7 SNAPSHOT -SNAPSHOT 1.1-SNAPSHOT 1.0-snapshot a-SNAPSHOT-SNAPSHOT 1.1-SNAPSHOT 0";
 
-// Behind a release's version.
+// After a release's version.
 const TAILS: &str = ".jar -all.jar -all.tar.gz -20240229.235959-1.jar .. . - -.jar -all x.jar";
 
-// Behind a snapshot's base.
+// After a snapshot's base.
 const BUILDS: &str =
     "-20240229.235959-1.jar -20240229.235959-12-all.tar.gz -20000229.000000-999999999.jar -00000101.000000-90.jar -99991231.235959-7.. -20240229.235959-7 -20240229.235959-7-all -SNAPSHOT.jar -SNAPSHOT-all.jar -SNAPSHOTS.jar -20230229.235959-1.jar -19000229.000000-1.jar -20240431.000000-1.jar -20241301.000000-1.jar -20240229.240000-1.jar -20240229.236000-1.jar -20240229.235959-01.jar -20240229.235959-1000000000.jar -20240229.235959.jar -2024022.9235959-1.jar";
 

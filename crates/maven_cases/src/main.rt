@@ -2,7 +2,7 @@
 //! be, and the first difference of the others. The cases stand in files that the words name, in the form of `case_texts`. Paths and
 //! versions are also generated, and plain, slow programs say the same of them. The status is 0 where all cases go as they have to.
 //!
-//! With `--digests` behind the files, or alone, it reads the standard input in pieces of 65,536 bytes, and prints its SHA-1, MD5, SHA-256
+//! With `--digests` after the files, or alone, it reads the standard input in pieces of 65,536 bytes, and prints its SHA-1, MD5, SHA-256
 //! and SHA-512, a line each, which are taken in one pass: for `bench/digests` and `bench/pieces`. The status is 2 where a word follows.
 #![tactic(auto)]
 

@@ -6,7 +6,7 @@ use std::alloc::{AllocError, Global};
 /// What a path names in one line, or its fault.
 pub(crate) type Said = Result<String, PathFault>;
 
-// A word, the segments of a group, each before a slash, and what else there is, each behind a blank but the first.
+// A word, the segments of a group, each before a slash, and what else there is, each after a blank but the first.
 pub(crate) fn line(
     alloc: Global,
     word: &str,
@@ -188,7 +188,7 @@ fn tail_of(tail: &str) -> Option<(&str, &str)> {
     Some((classifier, extension))
 }
 
-// What stands in a name behind these parts of its front.
+// What stands in a name after these parts of its front.
 fn behind<'a>(name: &'a str, front: &[&str]) -> Result<&'a str, PathFault> {
     let mut rest = name;
     for part in front {
@@ -233,8 +233,8 @@ fn is_literal(rest: &str) -> bool {
     }
 }
 
-// What stands behind a dash and the number of a build.
-fn behind_number(after: &str) -> Option<&str> {
+// What stands after a dash and the number of a build.
+fn after_number(after: &str) -> Option<&str> {
     let run = after.strip_prefix("-")?;
     let digits = leading_digits(run);
     if digits == 0 || digits > 9 || run.starts_with('0') {
@@ -250,7 +250,7 @@ fn build(rest: &str) -> Result<(&str, &str), PathFault> {
     }
     match rest.split_at_checked(15) {
         Some((stamp, after)) if is_stamp(stamp) => {
-            let tail = behind_number(after).ok_or(PathFault::BadBuild)?;
+            let tail = after_number(after).ok_or(PathFault::BadBuild)?;
             Ok((rest.strip_suffix(tail).unwrap_or(rest), tail))
         }
         _ => Err(PathFault::BadStamp),

@@ -45,7 +45,7 @@ fn is_separator(byte: u8) -> bool {
     byte == b'.' || byte == b'-'
 }
 
-// The mark of the piece that a byte begins behind a text, or none where it begins none.
+// The mark of the piece that a byte begins after a text, or none where it begins none.
 fn mark_at(text: &[u8], byte: u8) -> Option<u8> {
     if is_separator(byte) {
         return Some(byte);
@@ -54,7 +54,7 @@ fn mark_at(text: &[u8], byte: u8) -> Option<u8> {
     (last.is_ascii_digit() != byte.is_ascii_digit()).then_some(SEAM)
 }
 
-// Puts a byte behind the piece, or behind a new piece where it begins one.
+// Puts a byte after the piece, or after a new piece where it begins one.
 fn add(
     alloc: Global,
     pieces: &mut Vec<Piece>,

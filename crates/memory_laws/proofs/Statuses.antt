@@ -1,4 +1,4 @@
--- How a replay may end: with 0, for want of memory, or since something has failed or was refused.
+-- How a replay may end: with 0, because memory ran out, or since something has failed or was refused.
 use Rattle.std.proofs.Common.{◌≡◌, ◌⊎◌, inl, inr, ℕ, Err, refl, sym, ap, subst, arith}
 use Rattle.outside.specs.declared.tells.Tells.{Ghosts as Telling}
 use Rattle.outside.specs.Faults.{Rose}
@@ -44,10 +44,10 @@ module _ {X : Type 0} (tells : Type 0) (links : Telling X) (old new : View (Desk
   unread (inr (refusal, _, _, inr starved)) = inr (inl starved)
 
   -- no repository is opened
-  unopened : (fault : StartFault) → StartFails old.records new.records old.place.kit.blobs new.place.kit.blobs fault → RefusesStart fault old.out new.out status → EndsSo
+  unopened : (fault : StartFault) → StartFails old.records new.records old.place.resources.blobs new.place.resources.blobs fault → RefusesStart fault old.out new.out status → EndsSo
   unopened start.NoMemory fails refuses = inr (inl refuses)
   unopened start.Store fails refuses = by fails.cause where
-    by : (Rose old.records.faults new.records.faults × (new.place.kit.blobs.faults ≡ old.place.kit.blobs.faults)) ⊎ ((new.records.faults ≡ old.records.faults) × Rose old.place.kit.blobs.faults new.place.kit.blobs.faults) → EndsSo
+    by : (Rose old.records.faults new.records.faults × (new.place.resources.blobs.faults ≡ old.place.resources.blobs.faults)) ⊎ ((new.records.faults ≡ old.records.faults) × Rose old.place.resources.blobs.faults new.place.resources.blobs.faults) → EndsSo
     by (inl (rose, _)) = inr (inr (failed.records_failed rose refuses.1))
     by (inr (_, rose)) = inr (inr (failed.blobs_failed rose refuses.1))
   unopened start.NotOurs fails refuses = inr (inr (failed.start_refused start.NotOurs refl fails refuses (inl refuses.1)))
@@ -72,11 +72,11 @@ module _ {X : Type 0} (tells : Type 0) (links : Telling X) (old new : View (Desk
 
   by-settings : (settings : Settings) → Replays tells links settings old new status → EndsSo
   by-settings settings (not_started fault blobs fails after _ refuses) =
-      unopened fault (subst (λ (b : Store). StartFails old.records new.records old.place.kit.blobs b fault) (sym (ap (λ (d : DeskState X). d.kit.blobs) after)) fails) refuses
+      unopened fault (subst (λ (b : Store). StartFails old.records new.records old.place.resources.blobs b fault) (sym (ap (λ (d : DeskState X). d.resources.blobs) after)) fails) refuses
   by-settings settings (port_failed _ _ faults _ rose after _ _ _ six) =
       inr (inr (failed.port_failed (subst (λ (n : ℕ). Rose old.place.port_faults n) (sym (ap (λ (d : DeskState X). d.port_faults) after)) rose) six))
   by-settings settings (none_left _ _ _ _ _ _ _ reports) = closed reports
-  by-settings settings (one_served link link' left kit ending calls comes after _ reports has) =
+  by-settings settings (one_served link link' left resources ending calls comes after _ reports has) =
       served link link' ending calls ((left, comes), ap (λ (d : DeskState X). d.given_back) after) reports has
 
   pub ends-so : ReplaysBy tells links old new status → EndsSo

@@ -15,7 +15,7 @@ use Rattle.repo_model.specs.Settings.{Settings}
 use Rattle.repo_model.specs.Tables.{no_tables}
 use Rattle.run_lines.specs.Printing.{Output}
 use Rattle.run_lines.specs.Reading.{File, Reads}
-use Rattle.run_desks.specs.Seen.{Floor, Kit, Looks}
+use Rattle.run_desks.specs.Seen.{RunResources, DeskResources, Looks}
 use Rattle.repo_run.specs.declared.actions.Action.{Action}
 use Rattle.repo_run.specs.declared.actions.Action.TheVariants.{Replay}
 use Rattle.repo_run.specs.Begun.{IsFresh, RefusesStart}
@@ -27,11 +27,11 @@ use Rattle.repo_run.specs.Surroundings.{Connection, DeskState, FirstOnly, Served
 -- the law on the worked replay
 abbrev pub WorkedReplay : Type 0 → Type 0
 WorkedReplay tells = (settings : Settings) (old new : View Served) (moments : Moments) (ending : End) (calls : ℕ) → IsReplayed tells (worked_settings settings) old new ending calls
-    → IsFresh old.records new.records old.place.kit.blobs → AllTold tells old.clock old.place.connection moments (put_abc ++ last_get) []
+    → IsFresh old.records new.records old.place.resources.blobs → AllTold tells old.clock old.place.connection moments (put_abc ++ last_get) []
     → NoFaults (outside_of old.place) (outside_of new.place)
     → ((new.place.connection.taken ≡ Some (created_201 ++ abc_200)) × (ending ≡ Closed)) ⊎ WantedMemory [] new.place.connection.taken
 
--- a connection that has taken the worked answers, or the last that it took says that memory was wanted
+-- a connection that has taken the worked answers, or the last that it took says that memory ran out
 abbrev pub HasTaken : Connection → Type 0
 HasTaken new = (new.taken ≡ Some (created_201 ++ abc_200)) ⊎ WantedMemory [] new.taken
 
@@ -76,8 +76,8 @@ sides-still old new out out' status zero (memory_wanted _ _ eight) = absurd (ome
 pub record IsWorked {X : Type 0} (links : Telling X) (link : X) (desk : DeskState X) : Type 0 where
   pub left : desk.left ≡ Some (link ∷ [])
   pub given_back : desk.given_back ≡ Some []
-  pub no_blobs : desk.kit.blobs.shelf.blobs ≡ Some []
-  pub unfailed : desk.kit.blobs.faults ≡ 0
+  pub no_blobs : desk.resources.blobs.shelf.blobs ≡ Some []
+  pub unfailed : desk.resources.blobs.faults ≡ 0
   pub input : links.left link ≡ Some (put_abc ++ last_get)
   pub none_taken : links.taken link ≡ Some []
   pub reads : links.read_faults link ≡ 0
@@ -85,16 +85,16 @@ pub record IsWorked {X : Type 0} (links : Telling X) (link : X) (desk : DeskStat
 
 -- one came back, which has taken the worked answers if the blobs did not fail
 abbrev pub CameBack : {X : Type 0} → Telling X → DeskState X → Type 0
-CameBack {X} links desk' = (link' : X) × (desk'.given_back ≡ Some (link' ∷ [])) × (desk'.kit.blobs.faults ≡ 0 → HasTaken (connection links link'))
+CameBack {X} links desk' = (link' : X) × (desk'.given_back ≡ Some (link' ∷ [])) × (desk'.resources.blobs.faults ≡ 0 → HasTaken (connection links link'))
 
 module _ {X : Type 0} (tells : Type 0) (links : Telling X) (link : X) (moments : Moments) (old new : View (DeskState X)) (status : ℕ)
     (worked : WorkedReplay tells) (told : tells) (is_worked : IsWorked links link old.place)
     (tables : old.records.tables ≡ Some no_tables) (unfailed : old.records.faults ≡ 0) (stood : new.records.faults ≡ 0)
     (clock : old.clock ≡ Some moments) (zero : status ≡ 0) where
-  module _ (t : Settings) (first link' : X) (left : Option (List X)) (kit : Kit) (ending : End) (calls : ℕ)
+  module _ (t : Settings) (first link' : X) (left : Option (List X)) (resources : DeskResources) (ending : End) (calls : ℕ)
       (comes : old.place.left ≡ in_front (first ∷ []) left)
-      (after : new.place ≡ record old.place { left = left; given_back = behind old.place.given_back (link' ∷ []); kit = kit })
-      (replayed : IsReplayed tells (worked_settings t) (placed (served (connection links first) old.place.kit) old) (placed (served (connection links link') kit) new) ending calls)
+      (after : new.place ≡ record old.place { left = left; given_back = behind old.place.given_back (link' ∷ []); resources = resources })
+      (replayed : IsReplayed tells (worked_settings t) (placed (served (connection links first) old.place.resources) old) (placed (served (connection links link') resources) new) ending calls)
       (has : HasStatus (counts (connection links first) old.out) (counts (connection links link') new.out) status) where
     came : first ≡ link
     came = one-left link first left (sym is_worked.left ∙ comes)
@@ -102,7 +102,7 @@ module _ {X : Type 0} (tells : Type 0) (links : Telling X) (link : X) (moments :
     back : new.place.given_back ≡ Some (link' ∷ [])
     back = ap (λ d. d.given_back) after ∙ ap (λ g. behind g (link' ∷ [])) is_worked.given_back
 
-    fresh : IsFresh old.records new.records old.place.kit.blobs
+    fresh : IsFresh old.records new.records old.place.resources.blobs
     fresh = record { no_tables = tables; unfailed = unfailed; stood = stood; no_blobs = is_worked.no_blobs }
 
     all_told : AllTold tells old.clock (connection links first) moments (put_abc ++ last_get) []
@@ -113,13 +113,13 @@ module _ {X : Type 0} (tells : Type 0) (links : Telling X) (link : X) (moments :
       taken_is = ap (λ l. links.taken l) came ∙ is_worked.none_taken;
     }
 
-    calm : new.place.kit.blobs.faults ≡ 0 → NoFaults (outside_of (served (connection links first) old.place.kit)) (outside_of (served (connection links link') kit))
+    calm : new.place.resources.blobs.faults ≡ 0 → NoFaults (outside_of (served (connection links first) old.place.resources)) (outside_of (served (connection links link') resources))
     calm none_failed =
         let sides = sides-still (connection links first) (connection links link') old.out new.out status zero has in
         record {
           reads = still (links.read_faults first) (links.read_faults link') (ap (λ l. links.read_faults l) came ∙ is_worked.reads) sides.0;
           writes = still (links.write_faults first) (links.write_faults link') (ap (λ l. links.write_faults l) came ∙ is_worked.writes) sides.1;
-          blobs = still old.place.kit.blobs.faults kit.blobs.faults is_worked.unfailed (sym (ap (λ d. d.kit.blobs.faults) after) ∙ none_failed ∙ sym is_worked.unfailed);
+          blobs = still old.place.resources.blobs.faults resources.blobs.faults is_worked.unfailed (sym (ap (λ d. d.resources.blobs.faults) after) ∙ none_failed ∙ sym is_worked.unfailed);
         }
 
     by-one : CameBack links new.place
@@ -127,16 +127,16 @@ module _ {X : Type 0} (tells : Type 0) (links : Telling X) (link : X) (moments :
       link',
       back,
       λ none_failed. taken-so (connection links link') ending
-          (worked t (placed (served (connection links first) old.place.kit) old) (placed (served (connection links link') kit) new) moments ending calls replayed fresh all_told (calm none_failed)),
+          (worked t (placed (served (connection links first) old.place.resources) old) (placed (served (connection links link') resources) new) moments ending calls replayed fresh all_told (calm none_failed)),
     )
 
   by-settings : (settings t : Settings) → settings ≡ worked_settings t → Replays tells links settings old new status → CameBack links new.place
   by-settings settings t is (not_started fault blobs _ _ _ refuses) = absurd (unopened fault old.out new.out status zero refuses)
   by-settings settings t is (port_failed _ _ _ _ _ _ _ _ _ six) = absurd (omega (arith, zero, six))
   by-settings settings t is (none_left _ _ _ at_end _ _ _ _) = absurd (let none : (link ∷ []) ≡ [] = subst (λ told. IsAtEnd told) is_worked.left at_end in cc)
-  by-settings settings t is (one_served first link' left kit ending calls comes after replayed _ has) =
-      by-one t first link' left kit ending calls comes after
-      (subst (λ s. IsReplayed tells s (placed (served (connection links first) old.place.kit) old) (placed (served (connection links link') kit) new) ending calls) is replayed) has
+  by-settings settings t is (one_served first link' left resources ending calls comes after replayed _ has) =
+      by-one t first link' left resources ending calls comes after
+      (subst (λ s. IsReplayed tells s (placed (served (connection links first) old.place.resources) old) (placed (served (connection links link') resources) new) ending calls) is replayed) has
 
   worked-run : ((s : Settings) → IsReadFrom old.source.left (Ok s) → (t : Settings) × (s ≡ worked_settings t)) → ReplaysBy tells links old new status → CameBack links new.place
   worked-run says (refused reads _ _ _) = absurd (unread old.source new.source old.out new.out status zero reads)
@@ -145,7 +145,7 @@ module _ {X : Type 0} (tells : Type 0) (links : Telling X) (link : X) (moments :
 
 -- the same of desks, which tell what they have given back
 module _ {L P D : Type 0} (looks : Looks L P D) (given : D → List L) (faults : D → ℕ) (taken : L → List ℕ)
-    (given_are : (d : D) → looks.given_back (looks.port d) ≡ Some (given d)) (faults_are : (d : D) → (looks.kit d).blobs.faults ≡ faults d)
+    (given_are : (d : D) → looks.given_back (looks.port d) ≡ Some (given d)) (faults_are : (d : D) → (looks.resources d).blobs.faults ≡ faults d)
     (taken_are : (x : L) → looks.link.taken x ≡ Some (taken x)) where
   abbrev pub Answered : L → Type 0
   Answered back = (taken back ≡ created_201 ++ abc_200) ⊎ WantedMemory [] (Some (taken back))
@@ -161,7 +161,7 @@ module _ {L P D : Type 0} (looks : Looks L P D) (given : D → List L) (faults :
       let one : given d ≡ came ∷ [] = cc in
       (ap (λ l. length l) one, λ none. subst (λ l. AllByRecursion Answered l) (sym one) (answered came (so (faults_are d ∙ none)), tt))
 
-  list-came : (link : L) (moments : Moments) (old new : View (Floor (List D))) (status : ℕ) → WorkedReplay looks.tells → looks.tells
+  list-came : (link : L) (moments : Moments) (old new : View (RunResources (List D))) (status : ℕ) → WorkedReplay looks.tells → looks.tells
       → old.records.tables ≡ Some no_tables → old.records.faults ≡ 0 → new.records.faults ≡ 0 → old.clock ≡ Some moments → status ≡ 0
       → ((s : Settings) → IsReadFrom old.source.left (Ok s) → (t : Settings) × (s ≡ worked_settings t))
       → (desk : D) → IsWorked looks.link link (desk_state looks desk) → (command : Action) → command ≡ Replay
@@ -175,7 +175,7 @@ module _ {L P D : Type 0} (looks : Looks L P D) (given : D → List L) (faults :
       let nil : news ≡ [] = none in
       rw nil (ap (λ n. n ∷ []) came.0, (came.1, tt))
 
-  pub desks-came : (link : L) (moments : Moments) (old new : View (Floor (List D))) (status : ℕ) → WorkedReplay looks.tells → looks.tells
+  pub desks-came : (link : L) (moments : Moments) (old new : View (RunResources (List D))) (status : ℕ) → WorkedReplay looks.tells → looks.tells
       → old.records.tables ≡ Some no_tables → old.records.faults ≡ 0 → new.records.faults ≡ 0 → old.clock ≡ Some moments → status ≡ 0
       → ((s : Settings) → IsReadFrom old.source.left (Ok s) → (t : Settings) × (s ≡ worked_settings t))
       → (desk : D) → IsWorked looks.link link (desk_state looks desk) → (command : Action) → command ≡ Replay → old.place.desks ≡ desk ∷ []

@@ -1,4 +1,4 @@
--- Why a replay may end with another status than 0: memory was wanting, or something has failed or was refused.
+-- Why a replay may end with another status than 0: memory ran out, or something has failed or was refused.
 use Rattle.std.specs.Prelude.{◌≡◌, ◌⊎◌, ℕ, Bool, true, false, List, [], ◌∷◌, Option, Some, Err, IsTrue}
 use Rattle.outside.specs.declared.tells.Tells.{Ghosts as Telling}
 use Rattle.outside.specs.Faults.{Rose}
@@ -13,7 +13,7 @@ use Rattle.run_lines.specs.Printing.{Output, Prints}
 use Rattle.repo_run.specs.Begun.{RefusesStart, StartFails}
 use Rattle.repo_run.specs.Surroundings.{DeskState, View}
 
--- memory was wanting: 8, with its line, or a front of it where the output failed
+-- memory ran out: 8, with its line, or a front of it where the output failed
 abbrev pub IsStarved : Output → Output → ℕ → Type 0
 IsStarved old new status = Prints memory_line old new × (status ≡ 8)
 
@@ -35,8 +35,8 @@ pub data HasFailed {X : Type 0} (links : Telling X) (old new : View (DeskState X
   settings_refused : (refusal : SettingsFault) (line : List ℕ) → IsReadFrom old.source.left (Err (Refused refusal)) → refusal_line refusal ≡ Some line → Prints line old.out new.out
       → status ≡ 3 → HasFailed links old new status
   records_failed : Rose old.records.faults new.records.faults → status ≡ 4 → HasFailed links old new status
-  blobs_failed : Rose old.place.kit.blobs.faults new.place.kit.blobs.faults → status ≡ 4 → HasFailed links old new status
-  start_refused : (fault : StartFault) → IsTrue (is_found fault) → StartFails old.records new.records old.place.kit.blobs new.place.kit.blobs fault → RefusesStart fault old.out new.out status
+  blobs_failed : Rose old.place.resources.blobs.faults new.place.resources.blobs.faults → status ≡ 4 → HasFailed links old new status
+  start_refused : (fault : StartFault) → IsTrue (is_found fault) → StartFails old.records new.records old.place.resources.blobs new.place.resources.blobs fault → RefusesStart fault old.out new.out status
       → (status ≡ 4) ⊎ (status ≡ 5) → HasFailed links old new status
   port_failed : Rose old.place.port_faults new.place.port_faults → status ≡ 6 → HasFailed links old new status
   source_failed : (link link' : X) → IsGivenBack old.place new.place link link' → Rose (links.read_faults link) (links.read_faults link') → status ≡ 6 → HasFailed links old new status

@@ -7,7 +7,7 @@ ghost use Rattle.memory_laws.specs.Failed.{HasFailed, IsStarved};
 
 use outside::{Held, Port, Tells};
 
-/// A replay ends with 0; or with 8 and its line, where memory was wanting; or something of it has failed, which its status tells:
+/// A replay ends with 0; or with 8 and its line, when memory ran out; or something of it has failed, which its status tells:
 /// the count of faults rose of the source of its settings, of the records, the blobs, the port, a side of its connection or the
 /// output, or its settings were refused, or what is recorded and stored, by what the start found there. So where its settings
 /// are accepted, the start finds nothing and no count rose, it ends with 0, or with 8.

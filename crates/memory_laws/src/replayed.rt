@@ -24,7 +24,7 @@ use std::alloc::Global;
 ///
 /// Where the source says settings with the worked repositories, and the run ends with status 0 and neither the records nor the
 /// blobs have failed, the connection came back and has taken the two worked answers byte for byte; or the last that it took
-/// says that memory was wanted.
+/// says that memory ran out.
 pub fn replay_worked(
     alloc: Global,
     words: &[String],

@@ -27,7 +27,7 @@ split_onto true x xs b ih = ap (λ v. [] ∷ v) ih
 split_onto false x xs b ih =
     ap (onto_first x) ih ∙ onto_first-append x (slice_split slash xs) (b ∷ []) (omega (arith, length-slice_split slash xs))
 
--- a text without a slash behind the last one is the last part
+-- a text without a slash after the last one is the last part
 pub split_last : (a b : List ℕ) → All (λ x. slash x ≡ false) b → slice_split slash (a ++ 47 ∷ b) ≡ slice_split slash a ++ b ∷ []
 split_last [] b h = ap (λ v. [] ∷ v) (slice_split_none slash b h)
 split_last (x ∷ xs) b h = split_onto (slash x) x xs b (split_last xs b h)
@@ -52,25 +52,25 @@ cut_last_is path (Some x) (i, j, found, front, back, le, front_len, back_len) =
     (ap levels joined ∙ levels_last x.0.now x.1.now none, joined)
 
 -- what `behind` and `before` say, as sums of lists
-pub behind_some : (front text rest : List ℕ) → behind front text ≡ Some rest → text ≡ front ++ rest
-behind_some front text rest h = some (starts_with eqb text front) refl h
+pub after_some : (front text rest : List ℕ) → behind front text ≡ Some rest → text ≡ front ++ rest
+after_some front text rest h = some (starts_with eqb text front) refl h
   where
     some : (t : Bool) → starts_with eqb text front ≡ t → cond t (Some (drop (length front) text)) None ≡ Some rest → text ≡ front ++ rest
     some true e h = (starts_is Decides-eqb text front _ refl).0 e ∙ ap (λ r. front ++ r) cc
     some false e h = cc
 
-pub some_behind : (front text rest : List ℕ) → text ≡ front ++ rest → behind front text ≡ Some rest
-some_behind front text rest h =
+pub some_after : (front text rest : List ℕ) → text ≡ front ++ rest → behind front text ≡ Some rest
+some_after front text rest h =
     let e : starts_with eqb text front ≡ true = (starts_is Decides-eqb text front _ refl).1 rest h in
     rw (e, h) (ap Some (drop_at front rest (length front) refl))
 
-pub none_behind : (front text : List ℕ) → ((rest : List ℕ) → text ≢ front ++ rest) → behind front text ≡ None
-none_behind front text h =
+pub none_after : (front text : List ℕ) → ((rest : List ℕ) → text ≢ front ++ rest) → behind front text ≡ None
+none_after front text h =
     let e : starts_with eqb text front ≡ false = false_from_ne_true _ (λ t. h _ ((starts_is Decides-eqb text front _ refl).0 t)) in
     rw e refl
 
-pub behind_none : (front text rest : List ℕ) → behind front text ≡ None → text ≡ front ++ rest → ⊥
-behind_none front text rest h e = let s = some_behind front text rest e in cc
+pub after_none : (front text rest : List ℕ) → behind front text ≡ None → text ≡ front ++ rest → ⊥
+after_none front text rest h e = let s = some_after front text rest e in cc
 
 pub before_some : (end text rest : List ℕ) → before end text ≡ Some rest → text ≡ rest ++ end
 before_some end text rest h = some (ends_with eqb text end) refl h
@@ -79,25 +79,25 @@ before_some end text rest h = some (ends_with eqb text end) refl h
     some true e h = (ends_is Decides-eqb text end _ refl).0 e ∙ ap (λ r. r ++ end) cc
     some false e h = cc
 
--- one front behind another
+-- one front after another
 pub behind-append : (a b text : List ℕ) → behind (a ++ b) text ≡ option_and_then (behind b) (behind a text)
 behind-append a b text = by_first (behind a text) refl
   where
     by_second : (r : List ℕ) (o : Option (List ℕ)) → text ≡ a ++ r → behind b r ≡ o → behind (a ++ b) text ≡ o
-    by_second r None e h = none_behind (a ++ b) text (λ rest w. behind_none b r rest h (append_cancel_left a r (b ++ rest) (sym e ∙ w ∙ append_assoc a b rest)))
-    by_second r (Some rest) e h = some_behind (a ++ b) text rest (e ∙ ap (λ v. a ++ v) (behind_some b r rest h) ∙ sym (append_assoc a b rest))
+    by_second r None e h = none_after (a ++ b) text (λ rest w. after_none b r rest h (append_cancel_left a r (b ++ rest) (sym e ∙ w ∙ append_assoc a b rest)))
+    by_second r (Some rest) e h = some_after (a ++ b) text rest (e ∙ ap (λ v. a ++ v) (after_some b r rest h) ∙ sym (append_assoc a b rest))
 
     by_first : (o : Option (List ℕ)) → behind a text ≡ o → behind (a ++ b) text ≡ option_and_then (behind b) o
-    by_first None h = none_behind (a ++ b) text (λ rest w. behind_none a text (b ++ rest) h (w ∙ append_assoc a b rest))
-    by_first (Some r) h = by_second r (behind b r) (behind_some a text r h) refl
+    by_first None h = none_after (a ++ b) text (λ rest w. after_none a text (b ++ rest) h (w ∙ append_assoc a b rest))
+    by_first (Some r) h = by_second r (behind b r) (after_some a text r h) refl
 
 -- an artifact, `-` and a version
-pub behind_version : (a v text : List ℕ) → behind (a ++ 45 ∷ v) text ≡ option_and_then (λ r. option_and_then (behind v) (behind (45 ∷ []) r)) (behind a text)
-behind_version a v text = behind-append a (45 ∷ v) text ∙ ap (λ f. option_and_then f (behind a text)) (λ i r. behind-append (45 ∷ []) v r i)
+pub after_version : (a v text : List ℕ) → behind (a ++ 45 ∷ v) text ≡ option_and_then (λ r. option_and_then (behind v) (behind (45 ∷ []) r)) (behind a text)
+after_version a v text = behind-append a (45 ∷ v) text ∙ ap (λ f. option_and_then f (behind a text)) (λ i r. behind-append (45 ∷ []) v r i)
 
 -- the same with `-` at its end
-pub behind_base : (a b text : List ℕ) → behind (a ++ 45 ∷ b ++ 45 ∷ []) text ≡ option_and_then (behind (45 ∷ [])) (behind (a ++ 45 ∷ b) text)
-behind_base a b text = behind-append (a ++ 45 ∷ b) (45 ∷ []) text
+pub after_base : (a b text : List ℕ) → behind (a ++ 45 ∷ b ++ 45 ∷ []) text ≡ option_and_then (behind (45 ∷ [])) (behind (a ++ 45 ∷ b) text)
+after_base a b text = behind-append (a ++ 45 ∷ b) (45 ∷ []) text
 
 pub before_none : (end text : List ℕ) → before end text ≡ None → ends_with eqb text end ≡ false
 before_none end text h = none (ends_with eqb text end) h

@@ -12,7 +12,7 @@ use Rattle.byte_cuts.specs.Cuts.{behind}
 use Rattle.mvn_coords.specs.FileName.{BuildOf, Ending, ◌>>=◌, is_dot, is_filled, tail_by, tail_of, ending_of, release_ending, number_of, digit_count, number_in, numbered, is_literal, snapshot_ending, ending_in}
 use Rattle.byte_cuts.specs.Cuts.{significant}
 use Rattle.mvn_coords.specs.Layout.{tail_text, version_with}
-use Rattle.mvn_coords.proofs.Cuts.{behind_some}
+use Rattle.mvn_coords.proofs.Cuts.{after_some}
 use Rattle.mvn_coords.proofs.Results.{bound, chosen_some, ok_or_some, some_same, ok_same}
 use Rattle.mvn_coords.proofs.Written.{text_of_time-time_of, number_written}
 
@@ -35,12 +35,12 @@ tail_written text t h = by_dot (behind (46 ∷ []) text) (behind (45 ∷ []) tex
     by_dot (Some e) p a b h =
         let c = chosen_some (is_filled e) (Some ([], e)) t h in
         let same : ([], e) ≡ t = some_same _ _ c.value in
-        behind_some (46 ∷ []) text e a ∙ ap (λ (v : List ℕ × List ℕ). tail_text v.0 v.1) same
+        after_some (46 ∷ []) text e a ∙ ap (λ (v : List ℕ × List ℕ). tail_text v.0 v.1) same
     by_dot None (Some r) a b h =
         let c = chosen_some _ (Some (before_first is_dot r, after_first is_dot r)) t h in
         let f = and_parts (is_filled (before_first is_dot r)) (is_filled (after_first is_dot r)) c.test in
         let same : (before_first is_dot r, after_first is_dot r) ≡ t = some_same _ _ c.value in
-        behind_some (45 ∷ []) text r b ∙ ap (λ v. 45 ∷ v) (cut_at_dot r f.1) ∙ with_classifier (before_first is_dot r) (after_first is_dot r) f.0 ∙ ap (λ (v : List ℕ × List ℕ). tail_text v.0 v.1) same
+        after_some (45 ∷ []) text r b ∙ ap (λ v. 45 ∷ v) (cut_at_dot r f.1) ∙ with_classifier (before_first is_dot r) (after_first is_dot r) f.0 ∙ ap (λ (v : List ℕ × List ℕ). tail_text v.0 v.1) same
     by_dot None None a b h = cc
 
 ending_parts : (build : Option BuildOf) (text : List ℕ) (e : Ending) → ending_of build text ≡ Ok e → (text ≡ tail_text e.classifier e.extension) × (e.build ≡ build)
@@ -57,7 +57,7 @@ release_written : (artifact directory name : List ℕ) (e : Ending) → release_
 release_written artifact directory name e h =
     let b = bound (ok_or (behind (artifact ++ 45 ∷ directory) name) fault.NotNamed) (ending_of None) e h in
     let text = b.value in
-    let front = behind_some (artifact ++ 45 ∷ directory) name text (ok_or_some _ fault.NotNamed text b.first) in
+    let front = after_some (artifact ++ 45 ∷ directory) name text (ok_or_some _ fault.NotNamed text b.first) in
     let p = ending_parts None text e b.next in
     front ∙ ap (λ v. (artifact ++ 45 ∷ directory) ++ v) p.0
     ∙ ap (λ (b : Option BuildOf). artifact ++ 45 ∷ version_with directory b None ++ tail_text e.classifier e.extension) (sym p.1)
@@ -74,7 +74,7 @@ run_written text rest n h = by_dash (behind (45 ∷ []) text) refl h
 
     by_dash : (o : Option (List ℕ)) → behind (45 ∷ []) text ≡ o → option_and_then number_in o ≡ Some (n, rest) → text ≡ 45 ∷ (significant (digits 9 n) ++ rest)
     by_dash None a h = cc
-    by_dash (Some run) a h = behind_some (45 ∷ []) text run a ∙ ap (λ v. 45 ∷ v) (by_number run (number_of (take (digit_count run) run)) refl h)
+    by_dash (Some run) a h = after_some (45 ∷ []) text run a ∙ ap (λ v. 45 ∷ v) (by_number run (number_of (take (digit_count run) run)) refl h)
 
 regrouped : (a b t n r : List ℕ) → (a ++ 45 ∷ b ++ 45 ∷ []) ++ (t ++ 45 ∷ (n ++ r)) ≡ a ++ 45 ∷ (b ++ 45 ∷ (t ++ 45 ∷ n)) ++ r
 regrouped a b t n r = simp append_assoc
@@ -97,7 +97,7 @@ snapshot_written : (artifact directory base name : List ℕ) (e : Ending) → sn
 snapshot_written artifact directory base name e h =
     let b = bound (ok_or (behind (artifact ++ 45 ∷ base ++ 45 ∷ []) name) fault.NotNamed) _ e h in
     let text = b.value in
-    let front = behind_some (artifact ++ 45 ∷ base ++ 45 ∷ []) name text (ok_or_some _ fault.NotNamed text b.first) in
+    let front = after_some (artifact ++ 45 ∷ base ++ 45 ∷ []) name text (ok_or_some _ fault.NotNamed text b.first) in
     let s = bound (cond (is_literal text) (Err fault.LiteralSnapshot) (ok_or (time_of (take 15 text)) fault.BadStamp)) _ e b.next in
     after_stamp artifact directory base name text s.value e front (ok_or_some _ fault.BadStamp s.value (not_literal (is_literal text) _ s.value s.first)) s.next
   where

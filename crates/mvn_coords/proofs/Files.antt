@@ -82,7 +82,7 @@ file_path path c h =
       text = text ∙ ap text_of p.value;
     }
 
--- a name with `-` behind an artifact is a segment
+-- a name with `-` after an artifact is a segment
 spelled_segment : (name a rest : List ℕ) → name ≡ a ++ 45 ∷ rest → list_all is_path_byte name ≡ true → length name ≤ 255 → is_segment name ≡ true
 spelled_segment name a rest e bytes size =
     let long : length name ≡ length a + suc (length rest) = ap length e ∙ length-append a (45 ∷ rest) in

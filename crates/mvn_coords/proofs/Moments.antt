@@ -1,4 +1,4 @@
--- The civil time of a moment by the words of the calendar: it is civil, and so many seconds behind 1970.
+-- The civil time of a moment by the words of the calendar: it is civil, and so many seconds after 1970.
 use Rattle.std.proofs.Common.{◌≡◌, ℕ, zero, suc, ◌+◌, ◌-◌, ◌*◌, ◌/◌, ◌%◌, ◌<◌, ◌≤◌, inl, inr, true, false, nat_lt, refl, ap, ◌∙◌, arith, pos}
 use Rattle.std.proofs.lemmas.Bool.{cases_order}
 use Rattle.std.proofs.lemmas.Bool.Decides.{nat_tests}

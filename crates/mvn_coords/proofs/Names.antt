@@ -19,7 +19,7 @@ digit_count_is bs = by_place (ltb (position_or_len is_no_digit bs) (length bs)) 
     by_place true e = refl
     by_place false e = omega (arith, ltb-false _ _ e, prefix_len-le-length (λ b. not (is_no_digit b)) bs)
 
--- a text may be cut behind the digits at its front
+-- a text may be cut after the digits at its front
 pub digits_boundary : (bs : List ℕ) → IsUtf8 bs → IsCharBoundary bs (digit_count bs)
 digits_boundary bs u = rw (digit_count_is bs) (at (position_or_len is_no_digit bs) refl)
   where
@@ -31,7 +31,7 @@ digits_boundary bs u = rw (digit_count_is bs) (at (position_or_len is_no_digit b
         let low = digit_bounds (get_or bs n 0) digit in
         rw add-one at (IsCharBoundary-after_ascii bs n u (omega arith) (omega arith))
 
--- a text that may not be cut behind 15 bytes has no stamp there
+-- a text that may not be cut after 15 bytes has no stamp there
 pub no_stamp : (bs : List ℕ) → IsUtf8 bs → (IsCharBoundary bs 15 → ⊥) → time_of (take 15 bs) ≡ None
 no_stamp bs u h = by_form (is_time_form (take 15 bs)) refl
   where

@@ -3,7 +3,7 @@ use Rattle.std.specs.Prelude.{◌≡◌, ◌≤◌, ℕ, zero, suc, ◌-◌, ◌
 use Rattle.jiff_core.specs.Calendar.{days_in_month, days_in_year}
 use Rattle.mvn_coords.specs.Civil.{CivilTime, is_civil, seconds_of}
 
--- the year in which the day lies that is so many days behind the first of January of a year, and the days of it before that day; at most `left` years on (the cases of `elim` wait, so that only the years that are gone are counted)
+-- the year in which the day lies that is so many days after the first of January of a year, and the days of it before that day; at most `left` years on (the cases of `elim` wait, so that only the years that are gone are counted)
 unfoldable pub year_from : ℕ → ℕ → ℕ → ℕ × ℕ
 year_from zero year days = (year, days)
 year_from (suc left) year days =
@@ -39,7 +39,7 @@ civil_by year rest = civil_in year.0 (month_from 11 year.0 1 year.1) rest
 unfoldable pub civil_of : ℕ → CivilTime
 civil_of moment = civil_by (year_from 8029 1970 (moment / 86_400)) (moment % 86_400)
 
--- each moment of those years has one civil time, and it is so many seconds behind 1970-01-01T00:00:00
+-- each moment of those years has one civil time, and it is so many seconds after 1970-01-01T00:00:00
 pub record IsCalendar : Type 0 where
   pub civil : (moment : ℕ) → moment ≤ 253_402_300_799 → is_civil (civil_of moment) ≡ true
   pub seconds : (moment : ℕ) → moment ≤ 253_402_300_799 → seconds_of (civil_of moment) ≡ pos moment

@@ -44,7 +44,7 @@ impl PathFault {
     }
 }
 
-/// A digest that a side file has: `.sha1`, `.md5`, `.sha256` or `.sha512` behind the path of its file or document.
+/// A digest that a side file has: `.sha1`, `.md5`, `.sha256` or `.sha512` after the path of its file or document.
 #[derive(Clone, Copy, Debug, PartialEq, Eq)]
 pub enum Side {
     Sha1,

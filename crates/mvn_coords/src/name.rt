@@ -41,9 +41,9 @@ pub(crate) fn base_of(directory: &str) -> Option<&str>
     before("-SNAPSHOT", directory)
 }
 
-/// What is left of a name behind `artifact-version`.
-#[tactic(auto, using(crate::proofs::Cuts::behind_version))]
-fn behind_version<'a>(artifact: &str, version: &str, name: &'a str) -> Option<&'a str>
+/// What is left of a name after `artifact-version`.
+#[tactic(auto, using(crate::proofs::Cuts::after_version))]
+fn after_version<'a>(artifact: &str, version: &str, name: &'a str) -> Option<&'a str>
     ensures { option_copied result ≡ cuts.behind (artifact.now ++ 45 ∷ version.now) name.now }
 {
     let dashed = behind(artifact, name)?;
@@ -51,12 +51,12 @@ fn behind_version<'a>(artifact: &str, version: &str, name: &'a str) -> Option<&'
     behind(version, rest)
 }
 
-/// What is left of a name behind `artifact-base-`.
-#[tactic(auto, using(crate::proofs::Cuts::behind_base))]
-fn behind_base<'a>(artifact: &str, base: &str, name: &'a str) -> Option<&'a str>
+/// What is left of a name after `artifact-base-`.
+#[tactic(auto, using(crate::proofs::Cuts::after_base))]
+fn after_base<'a>(artifact: &str, base: &str, name: &'a str) -> Option<&'a str>
     ensures { option_copied result ≡ cuts.behind (artifact.now ++ 45 ∷ base.now ++ 45 ∷ []) name.now }
 {
-    let rest = behind_version(artifact, base, name)?;
+    let rest = after_version(artifact, base, name)?;
     behind("-", rest)
 }
 
@@ -92,7 +92,7 @@ fn ending_with(build: Option<Build>, text: &str) -> Result<Ending<'_>, PathFault
 fn release<'a>(artifact: &str, directory: &str, name: &'a str) -> Result<Ending<'a>, PathFault>
     ensures { result ≡ spec.release_ending artifact.now directory.now name.now }
 {
-    let text = behind_version(artifact, directory, name).ok_or(PathFault::NotNamed)?;
+    let text = after_version(artifact, directory, name).ok_or(PathFault::NotNamed)?;
     ending_with(None, text)
 }
 
@@ -138,7 +138,7 @@ fn split_digits(text: &str) -> (&str, &str)
     text.split_at(digit_count(text))
 }
 
-/// The number behind `-`, and what follows its digits.
+/// The number after `-`, and what follows its digits.
 fn numbered(text: &str) -> Option<(u32, &str)>
     ensures value { option_map (λ x. (x.0, x.1.now)) result ≡ spec.numbered text.now }
     ensures range { IfSome result (λ x. IsTrue (spec.is_build_number x.0)) }
@@ -160,7 +160,7 @@ fn split_stamp(text: &str) -> Option<(&str, &str)>
 fn snapshot<'a>(artifact: &str, base: &str, name: &'a str) -> Result<Ending<'a>, PathFault>
     ensures { result ≡ spec.snapshot_ending artifact.now base.now name.now }
 {
-    let text = behind_base(artifact, base, name).ok_or(PathFault::NotNamed)?;
+    let text = after_base(artifact, base, name).ok_or(PathFault::NotNamed)?;
     if is_literal(text) {
         return Err(PathFault::LiteralSnapshot);
     }

@@ -40,7 +40,7 @@ pub fn kind_of(path: &str) -> Result<Kind<'_>, PathFault>
     }
 }
 
-/// The path of a file. The only error is want of memory.
+/// The path of a file. The only error is out of memory.
 pub fn path_of(alloc: Global, c: &Coord<'_>) -> Result<String, NoMemory>
     ensures path { IfOk result (λ path. string_bytes path ≡ layout.text_of c.now) }
     ensures kind { kind (layout.text_of c.now) ≡ Ok (Kind.File c.now) }

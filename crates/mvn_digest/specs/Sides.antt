@@ -1,4 +1,4 @@
--- The text of a side file (Maven 2 repository layout): a digest in hexadecimal (RFC 4648, section 8), as it is written and as it is read, also behind the name and the ` = ` that checksum programs write before a digest.
+-- The text of a side file (Maven 2 repository layout): a digest in hexadecimal (RFC 4648, section 8), as it is written and as it is read, also after the name and the ` = ` that checksum programs write before a digest.
 use Rattle.std.specs.Prelude.{ℕ, Bool, false, not, ◌||◌, ◌==◌, nat_eq, if◌then◌else◌, List, [], ◌∷◌, filter, find, Option, None, option_and_then, codes}
 use Rattle.std.specs.List.{last_or, list_all, slice_split, starts_with}
 use Rattle.std.specs.Result.{result_ok}

@@ -17,7 +17,7 @@ pub fn empty() -> Tag
     Tag::empty()
 }
 
-// The message with `piece` behind it.
+// The message with `piece` after it.
 pub fn joined(message: &Tag, piece: &[u8]) -> Tag
     ensures { result.numbers ≡ message.now.numbers ++ piece.now }
 {

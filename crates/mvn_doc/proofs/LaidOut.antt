@@ -18,7 +18,7 @@ pub data Lines : Type 0 where
   Line : (name value : List ℕ) → Lines → Lines
   Block : (name : List ℕ) → Lines → Lines → Lines
 
--- the written lines behind a margin
+-- the written lines after a margin
 abbrev pub lines_text : List ℕ → Lines → List ℕ
 lines_text margin NoLines = []
 lines_text margin (Line name value more) = element margin name value ++ lines_text margin more

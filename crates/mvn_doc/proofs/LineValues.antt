@@ -44,10 +44,10 @@ path_front xs ys h = first (are_path_bytes xs) (are_path_bytes ys) (sym (list_al
 path_end : (xs ys : List ℕ) → are_path_bytes (xs ++ ys) ≡ true → are_path_bytes ys ≡ true
 path_end xs ys h = second (are_path_bytes xs) (are_path_bytes ys) (sym (list_all-append is_path_byte xs ys) ∙ h)
 
--- a value behind path bytes, and path bytes behind a value
-value_behind : (xs ys : List ℕ) → are_path_bytes xs ≡ true → is_line_value ys ≡ true → is_line_value (xs ++ ys) ≡ true
-value_behind [] ys g h = h
-value_behind (x ∷ xs) ys g h = cons_value x (xs ++ ys) (path_both (x ∷ xs) ys g (bytes_of_value ys h))
+-- a value after path bytes, and path bytes after a value
+value_after : (xs ys : List ℕ) → are_path_bytes xs ≡ true → is_line_value ys ≡ true → is_line_value (xs ++ ys) ≡ true
+value_after [] ys g h = h
+value_after (x ∷ xs) ys g h = cons_value x (xs ++ ys) (path_both (x ∷ xs) ys g (bytes_of_value ys h))
 
 value_before : (xs ys : List ℕ) → is_line_value xs ≡ true → are_path_bytes ys ≡ true → is_line_value (xs ++ ys) ≡ true
 value_before [] ys g h = absurd cc
@@ -138,7 +138,7 @@ digits_path (suc n) x =
     path_both (digits n (x / 10)) ((48 + x % 10) ∷ []) (digits_path n (x / 10)) (bytes_of_value ((48 + x % 10) ∷ []) (last_value x))
 
 digits_value : (n x : ℕ) → is_line_value (digits (suc n) x) ≡ true
-digits_value n x = value_behind (digits n (x / 10)) ((48 + x % 10) ∷ []) (digits_path n (x / 10)) (last_value x)
+digits_value n x = value_after (digits n (x / 10)) ((48 + x % 10) ∷ []) (digits_path n (x / 10)) (last_value x)
 
 six_value : (a b c d e f : List ℕ) → is_line_value a ≡ true → are_path_bytes b ≡ true → are_path_bytes c ≡ true → are_path_bytes d ≡ true → are_path_bytes e ≡ true → are_path_bytes f ≡ true
     → is_line_value (a ++ b ++ c ++ (46 ∷ []) ++ d ++ e ++ f) ≡ true
@@ -182,7 +182,7 @@ build_value base b g h =
     let time = text_of_time b.stamp in
     let number = text_of_number b.number in
     let build = path_both time (45 ∷ number) (bytes_of_value time (time_value b.stamp)) (bytes_of_value number (number_value b.number h)) in
-    value_behind base (45 ∷ text_of_build b)
+    value_after base (45 ∷ text_of_build b)
     (path_front base (codes "-SNAPSHOT") (bytes_of_value (base ++ codes "-SNAPSHOT") (base_value (base ++ codes "-SNAPSHOT") g)))
     (cons_value 45 (text_of_build b) build)
 

@@ -22,38 +22,38 @@ five a b c d e rest = simp append_assoc
 seven : (a b c d e rest : List ℕ) → (a ++ b ++ c) ++ d ++ (a ++ e ++ c) ++ rest ≡ a ++ (b ++ (c ++ (d ++ (a ++ (e ++ (c ++ rest))))))
 seven a b c d e rest = simp append_assoc
 
--- text behind the tags of an element
-open_behind : (name rest : List ℕ) → open_tag name ++ rest ≡ 60 ∷ (name ++ 62 ∷ rest)
-open_behind name rest = ap (λ t. 60 ∷ t) (append_assoc name (62 ∷ []) rest)
+-- text after the tags of an element
+open_after : (name rest : List ℕ) → open_tag name ++ rest ≡ 60 ∷ (name ++ 62 ∷ rest)
+open_after name rest = ap (λ t. 60 ∷ t) (append_assoc name (62 ∷ []) rest)
 
-close_behind : (name rest : List ℕ) → close_tag name ++ rest ≡ 60 ∷ 47 ∷ (name ++ 62 ∷ rest)
-close_behind name rest = ap (λ t. 60 ∷ 47 ∷ t) (append_assoc name (62 ∷ []) rest)
+close_after : (name rest : List ℕ) → close_tag name ++ rest ≡ 60 ∷ 47 ∷ (name ++ 62 ∷ rest)
+close_after name rest = ap (λ t. 60 ∷ 47 ∷ t) (append_assoc name (62 ∷ []) rest)
 
-element_behind : (margin name value rest : List ℕ) → element margin name value ++ rest ≡ margin ++ 60 ∷ (name ++ 62 ∷ (value ++ 60 ∷ 47 ∷ (name ++ 62 ∷ 10 ∷ rest)))
-element_behind margin name value rest =
+element_after : (margin name value rest : List ℕ) → element margin name value ++ rest ≡ margin ++ 60 ∷ (name ++ 62 ∷ (value ++ 60 ∷ 47 ∷ (name ++ 62 ∷ 10 ∷ rest)))
+element_after margin name value rest =
     five margin (open_tag name) value (close_tag name) (10 ∷ []) rest
-    ∙ ap (λ t. margin ++ (open_tag name ++ (value ++ t))) (close_behind name (10 ∷ rest))
-    ∙ ap (λ t. margin ++ t) (open_behind name (value ++ 60 ∷ 47 ∷ (name ++ 62 ∷ 10 ∷ rest)))
+    ∙ ap (λ t. margin ++ (open_tag name ++ (value ++ t))) (close_after name (10 ∷ rest))
+    ∙ ap (λ t. margin ++ t) (open_after name (value ++ 60 ∷ 47 ∷ (name ++ 62 ∷ 10 ∷ rest)))
 
-block_behind : (margin name lines rest : List ℕ) → block margin name lines ++ rest ≡ margin ++ 60 ∷ (name ++ 62 ∷ 10 ∷ (lines ++ (margin ++ 60 ∷ 47 ∷ (name ++ 62 ∷ 10 ∷ rest))))
-block_behind margin name lines rest =
+block_after : (margin name lines rest : List ℕ) → block margin name lines ++ rest ≡ margin ++ 60 ∷ (name ++ 62 ∷ 10 ∷ (lines ++ (margin ++ 60 ∷ 47 ∷ (name ++ 62 ∷ 10 ∷ rest))))
+block_after margin name lines rest =
     seven margin (open_tag name) (10 ∷ []) lines (close_tag name) rest
-    ∙ ap (λ t. margin ++ (open_tag name ++ 10 ∷ (lines ++ (margin ++ t)))) (close_behind name (10 ∷ rest))
-    ∙ ap (λ t. margin ++ t) (open_behind name (10 ∷ (lines ++ (margin ++ 60 ∷ 47 ∷ (name ++ 62 ∷ 10 ∷ rest)))))
+    ∙ ap (λ t. margin ++ (open_tag name ++ 10 ∷ (lines ++ (margin ++ t)))) (close_after name (10 ∷ rest))
+    ∙ ap (λ t. margin ++ t) (open_after name (10 ∷ (lines ++ (margin ++ 60 ∷ 47 ∷ (name ++ 62 ∷ 10 ∷ rest)))))
 
 spelled_content : (margin last : List ℕ) (ls : Lines) (rest : List ℕ) → spelled (content margin last ls) rest ≡ 10 ∷ (lines_text margin ls ++ (last ++ rest))
 spelled_content margin last NoLines rest = refl
 spelled_content margin last (Line name value more) rest =
     let tail = lines_text margin more ++ (last ++ rest) in
     ap (λ t. 10 ∷ (margin ++ 60 ∷ (name ++ 62 ∷ (value ++ 60 ∷ 47 ∷ (name ++ 62 ∷ t))))) (spelled_content margin last more rest)
-    ∙ ap (λ t. 10 ∷ t) (sym (element_behind margin name value tail) ∙ sym (append_assoc (element margin name value) (lines_text margin more) (last ++ rest)))
+    ∙ ap (λ t. 10 ∷ t) (sym (element_after margin name value tail) ∙ sym (append_assoc (element margin name value) (lines_text margin more) (last ++ rest)))
 spelled_content margin last (Block name inner more) rest =
     let wider = 32 ∷ 32 ∷ margin in
     let tail = lines_text margin more ++ (last ++ rest) in
     let whole = block margin name (lines_text wider inner) in
     ap (λ t. 10 ∷ (margin ++ 60 ∷ (name ++ 62 ∷ spelled (content wider margin inner) (60 ∷ 47 ∷ (name ++ 62 ∷ t))))) (spelled_content margin last more rest)
     ∙ ap (λ t. 10 ∷ (margin ++ 60 ∷ (name ++ 62 ∷ t))) (spelled_content wider margin inner (60 ∷ 47 ∷ (name ++ 62 ∷ 10 ∷ tail)))
-    ∙ ap (λ t. 10 ∷ t) (sym (block_behind margin name (lines_text wider inner) tail) ∙ sym (append_assoc whole (lines_text margin more) (last ++ rest)))
+    ∙ ap (λ t. 10 ∷ t) (sym (block_after margin name (lines_text wider inner) tail) ∙ sym (append_assoc whole (lines_text margin more) (last ++ rest)))
 
 pub text_spelled : (d : Document) → text d ≡ spelled_document (codes "metadata") (codes "modelVersion") (codes "1.1.0") (content (codes "  ") [] (lines_of d))
 text_spelled d =

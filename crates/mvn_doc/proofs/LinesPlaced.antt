@@ -24,7 +24,7 @@ cut_around level around opened front =
     let same : suc level - 1 ≡ level = omega arith in
     ap (λ n. take n opened) same ∙ front
 
--- behind an element inside, the elements around are the same
+-- after an element inside, the elements around are the same
 back_around : (level : ℕ) (around after : List Place) (place : Place) → length around ≡ level → take (suc level) after ≡ around ++ place ∷ [] → take level after ≡ around
 back_around level around after place size is =
     sym (take-take level (suc level) after (omega arith)) ∙ ap (take level) is ∙ take_at around (place ∷ []) level size

@@ -14,7 +14,7 @@ use Rattle.mvn_doc.specs.declared.place.Place.TheVariants.{ArtifactId, BaseVersi
 use Rattle.mvn_coords.specs.Segment.{is_artifact}
 use Rattle.mvn_metadata.specs.Form.{is_base_version, is_build, is_classifier, is_document, is_entry, is_extension, is_fit, is_group, is_listing}
 use Rattle.mvn_metadata.specs.Merge.{Entry}
-use Rattle.mvn_doc.specs.Picked.{artifact_in, base_in, build_by, build_in, build_value, entry_by, entry_in, first_at, fitting, group_in, snapshot_build_behind, snapshot_build_by, snapshot_build_of, last_cut, moment_in, moment_of}
+use Rattle.mvn_doc.specs.Picked.{artifact_in, base_in, build_by, build_in, build_value, entry_by, entry_in, first_at, fitting, group_in, snapshot_build_after, snapshot_build_by, snapshot_build_of, last_cut, moment_in, moment_of}
 use Rattle.mvn_doc.specs.Place.{Placed}
 use Rattle.mvn_metadata.proofs.Bools.{both, first, second}
 use Rattle.mvn_metadata.proofs.FormLemmas.{builds_whole, versions_whole}
@@ -27,18 +27,18 @@ fitting_fits test bs =
       | false ↦ λ _. refl
     ] refl
 
-pub fits_behind : {A B : Type 0} (test : B → Bool) (f : A → Option B) → ((a : A) → is_fit test (f a) ≡ true) → (o : Option A) → is_fit test (option_and_then f o) ≡ true
-fits_behind test f h None = refl
-fits_behind test f h (Some a) = h a
+pub fits_after : {A B : Type 0} (test : B → Bool) (f : A → Option B) → ((a : A) → is_fit test (f a) ≡ true) → (o : Option A) → is_fit test (option_and_then f o) ≡ true
+fits_after test f h None = refl
+fits_after test f h (Some a) = h a
 
 pub group_fits : (ps : List Placed) → is_fit is_group (group_in ps) ≡ true
-group_fits ps = fits_behind is_group (fitting is_group) (fitting_fits is_group) (first_at GroupId ps)
+group_fits ps = fits_after is_group (fitting is_group) (fitting_fits is_group) (first_at GroupId ps)
 
 pub artifact_fits : (ps : List Placed) → is_fit is_artifact (artifact_in ps) ≡ true
-artifact_fits ps = fits_behind is_artifact (fitting is_artifact) (fitting_fits is_artifact) (first_at ArtifactId ps)
+artifact_fits ps = fits_after is_artifact (fitting is_artifact) (fitting_fits is_artifact) (first_at ArtifactId ps)
 
 pub base_fits : (ps : List Placed) → is_fit is_base_version (base_in ps) ≡ true
-base_fits ps = fits_behind is_base_version (fitting is_base_version) (fitting_fits is_base_version) (first_at BaseVersion ps)
+base_fits ps = fits_after is_base_version (fitting is_base_version) (fitting_fits is_base_version) (first_at BaseVersion ps)
 
 -- ---- timestamps and numbers
 civil_fits : (t : CivilTime) → is_fit is_civil (if_civil t) ≡ true
@@ -56,7 +56,7 @@ time_fits text =
     ]
 
 pub moment_fits : (ps : List Placed) → is_fit is_civil (moment_in ps) ≡ true
-moment_fits ps = fits_behind is_civil moment_of (λ text. time_fits (take 8 text ++ 46 ∷ drop 8 text)) (first_at LastUpdated ps)
+moment_fits ps = fits_after is_civil moment_of (λ text. time_fits (take 8 text ++ 46 ∷ drop 8 text)) (first_at LastUpdated ps)
 
 no_zero : (b : Bool) → not b ≡ true → b ≡ false
 no_zero true h = absurd cc
@@ -92,8 +92,8 @@ build_fits None n g h = refl
 pub build_in_fits : (ps : List Placed) → is_fit is_build (build_in ps) ≡ true
 build_in_fits ps =
     build_fits (option_and_then time_of (first_at Timestamp ps)) (option_and_then number_of (first_at BuildNumber ps))
-    (fits_behind is_civil time_of time_fits (first_at Timestamp ps))
-    (fits_behind is_build_number number_of number_fits (first_at BuildNumber ps))
+    (fits_after is_civil time_of time_fits (first_at Timestamp ps))
+    (fits_after is_build_number number_of number_fits (first_at BuildNumber ps))
 
 -- ---- entries
 abbrev pub is_snapshot_build : SnapshotBuild → Bool
@@ -110,7 +110,7 @@ snapshot_build_of_fits base (Some b) h =
 
 value_fits : (text : List ℕ) → is_fit is_snapshot_build (build_value text) ≡ true
 value_fits text =
-    fits_behind is_snapshot_build snapshot_build_behind (λ cut. fits_behind is_snapshot_build (snapshot_build_by (number_of cut.1))
+    fits_after is_snapshot_build snapshot_build_after (λ cut. fits_after is_snapshot_build (snapshot_build_by (number_of cut.1))
     (λ inner. snapshot_build_of_fits inner.0 (build_by (time_of inner.1) (number_of cut.1))
     (build_fits (time_of inner.1) (number_of cut.1) (time_fits inner.1) (number_fits cut.1)))
     (last_cut cut.0)) (last_cut text)
@@ -129,8 +129,8 @@ pub entry_in_fits : (ps : List Placed) → is_fit is_entry (entry_in ps) ≡ tru
 entry_in_fits ps =
     entry_fits (fitting is_classifier (unwrap_or (first_at Classifier ps) [])) (option_and_then (fitting is_extension) (first_at Extension ps)) (option_and_then build_value (first_at Value ps))
     (fitting_fits is_classifier (unwrap_or (first_at Classifier ps) []))
-    (fits_behind is_extension (fitting is_extension) (fitting_fits is_extension) (first_at Extension ps))
-    (fits_behind is_snapshot_build build_value value_fits (first_at Value ps))
+    (fits_after is_extension (fitting is_extension) (fitting_fits is_extension) (first_at Extension ps))
+    (fits_after is_snapshot_build build_value value_fits (first_at Value ps))
 
 -- ---- the whole before anything is listed
 pub snapshot_form : (ps : List Placed) (g a : Option (List ℕ)) (b : List ℕ) (n : Option BuildOf) (es : List Entry)

@@ -85,7 +85,7 @@ past_versions [] more = refl
 past_versions (v ∷ vs) more =
     past_block place.LastUpdated (first_at place.LastUpdated) (first_skips place.LastUpdated) place.Versioning (codes "versions") (each_version (v ∷ vs)) more (omega arith)
 
--- what stands behind `latest` and `release`
+-- what stands after `latest` and `release`
 past_names : {X : Type 0} (at : Place) (f : List Placed → X) → ((p : Placed) (ps : List Placed) → is_at p.place at ≡ false → f (p ∷ ps) ≡ f ps) → is_at place.Other at ≡ false → (vs : List (List ℕ)) (more : Lines)
     → f (placed_lines place.Versioning (line_if (codes "latest") (latest vs) (line_if (codes "release") (release vs) more))) ≡ f (placed_lines place.Versioning more)
 past_names at f skips other vs more =

@@ -48,8 +48,8 @@ entries_onto l (Some e) es = refl
 pub entries_here : (p : Placed) (ps : List Placed) → is_at p.place SnapshotVersion ≡ true → entries_in (p ∷ ps) ≡ onto (entry_in (section ps)) (entries_in ps)
 entries_here p ps e = rw e refl
 
-pub entries_behind : (p : Placed) (ps : List Placed) → is_at p.place SnapshotVersion ≡ false → entries_in (p ∷ ps) ≡ entries_in ps
-entries_behind p ps e = rw e refl
+pub entries_after : (p : Placed) (ps : List Placed) → is_at p.place SnapshotVersion ≡ false → entries_in (p ∷ ps) ≡ entries_in ps
+entries_after p ps e = rw e refl
 
 -- the entry of one element, and then those of the ones that follow
 pub entry_step : (d e : Document) (p : Placed) (ps : List Placed) → is_at p.place SnapshotVersion ≡ true
@@ -64,7 +64,7 @@ pub other_step : (d e : Document) (p : Placed) (ps : List Placed) → is_at p.pl
     → record e { listing = fold with_build e.listing (entries_in ps) } ≡ record d { listing = fold with_build d.listing (entries_in (p ∷ ps)) }
 other_step d e p ps there made =
     ap (λ (f : Document). record f { listing = fold with_build f.listing (entries_in ps) }) made
-    ∙ ap (λ es. record d { listing = fold with_build d.listing es }) (sym (entries_behind p ps there))
+    ∙ ap (λ es. record d { listing = fold with_build d.listing es }) (sym (entries_after p ps there))
 
 -- the elements from a place on: the one there, and the rest
 pub cut_off : {A : Type 0} (ps : List A) (i : ℕ) (p : A) → i < length ps → p ≡ get_or ps i p → drop i ps ≡ p ∷ drop (i + 1) ps
@@ -87,7 +87,7 @@ found_at : (bs : List ℕ) (i : ℕ) → i < length bs → get_or bs i 0 ≡ 45 
 found_at bs i l b n =
     cut_at bs i (ap last_cut (drop-cons bs i 0 l) ∙ ap (λ d. last_cut (d ∷ drop (suc i) bs)) b ∙ cut_here 45 (drop (suc i) bs) refl n) l
 
--- the byte before a place behind which there is no `-`
+-- the byte before a place after which there is no `-`
 pub found_cut : (bs : List ℕ) (i e : ℕ) → e ≡ i + 1 → e ≤ length bs → get_or bs i 0 ≡ 45 → last_cut (drop e bs) ≡ None
     → Some (take i bs, take (length bs - (i + 1)) (drop (i + 1) bs)) ≡ last_cut bs
 found_cut bs i e s l b n =

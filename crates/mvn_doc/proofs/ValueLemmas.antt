@@ -13,7 +13,7 @@ use Rattle.mvn_coords.proofs.StampLaws.{exact_text}
 use Rattle.mvn_metadata.specs.declared.pair.SnapshotBuild.{SnapshotBuild}
 use Rattle.mvn_metadata.specs.Form.{is_base_version, is_build, is_entry, is_classifier, is_extension, is_fit}
 use Rattle.mvn_metadata.specs.Merge.{Entry}
-use Rattle.mvn_doc.specs.Picked.{build_by, build_value, cut_onto, snapshot_build_behind, snapshot_build_by, snapshot_build_of, last_cut, moment_of}
+use Rattle.mvn_doc.specs.Picked.{build_by, build_value, cut_onto, snapshot_build_after, snapshot_build_by, snapshot_build_of, last_cut, moment_of}
 use Rattle.mvn_coords.specs.Layout.{text_of_number}
 use Rattle.mvn_metadata.specs.Written.{build_version, moment_text}
 use Rattle.mvn_metadata.proofs.Bools.{both, first, second}
@@ -142,7 +142,7 @@ value_from : (base time number : List ℕ) (stamp : CivilTime) (n : ℕ) → lis
 value_from base time number stamp n plain_time plain_number stamped numbered fits =
     let snapshot : SnapshotBuild = record { base = base; build = record { stamp = stamp; number = n } } in
     ap build_value (sym (append_assoc base (45 ∷ time) (45 ∷ number)))
-    ∙ ap (option_and_then snapshot_build_behind) (cut_there (base ++ 45 ∷ time) number plain_number)
+    ∙ ap (option_and_then snapshot_build_after) (cut_there (base ++ 45 ∷ time) number plain_number)
     ∙ ap (option_and_then (snapshot_build_by (number_of number))) (cut_there base time plain_time)
     ∙ (λ i. snapshot_build_of base (build_by (stamped i) (numbered i)))
     ∙ ap (λ b. cond b (Some snapshot) None) fits

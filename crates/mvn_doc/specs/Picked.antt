@@ -50,7 +50,7 @@ abbrev pub build_in : List Placed → Option BuildOf
 build_in ps =
     build_by (option_and_then time_of (first_at Timestamp ps)) (option_and_then number_of (first_at BuildNumber ps))
 
--- what stands before the last `-`, and behind it
+-- what stands before the last `-`, and after it
 abbrev pub cut_onto : ℕ → List ℕ → Option (List ℕ × List ℕ) → Option (List ℕ × List ℕ)
 cut_onto b bs (Some cut) = Some (b ∷ cut.0, cut.1)
 cut_onto b bs None = if b == 45 then Some ([], bs) else None
@@ -68,13 +68,13 @@ snapshot_build_of base (Some build) =
 abbrev pub snapshot_build_by : Option ℕ → List ℕ × List ℕ → Option SnapshotBuild
 snapshot_build_by number cut = snapshot_build_of cut.0 (build_by (time_of cut.1) number)
 
-abbrev pub snapshot_build_behind : List ℕ × List ℕ → Option SnapshotBuild
-snapshot_build_behind cut = option_and_then (snapshot_build_by (number_of cut.1)) (last_cut cut.0)
+abbrev pub snapshot_build_after : List ℕ × List ℕ → Option SnapshotBuild
+snapshot_build_after cut = option_and_then (snapshot_build_by (number_of cut.1)) (last_cut cut.0)
 
 abbrev pub build_value : List ℕ → Option SnapshotBuild
-build_value text = option_and_then snapshot_build_behind (last_cut text)
+build_value text = option_and_then snapshot_build_after (last_cut text)
 
--- what stands behind a `snapshotVersion`, up to the next one: of these, what has a place in a `snapshotVersion` stands inside this one
+-- what stands after a `snapshotVersion`, up to the next one: of these, what has a place in a `snapshotVersion` stands inside this one
 abbrev pub section : List Placed → List Placed
 section ps = take_while (λ p. not (is_at p.place SnapshotVersion)) ps
 

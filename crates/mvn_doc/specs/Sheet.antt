@@ -1,4 +1,4 @@
--- What a sheet gains, on which a text is written piece by piece: from where memory was wanting, it has no text any more.
+-- What a sheet gains, on which a text is written piece by piece: from when memory ran out, it has no text any more.
 use Rattle.std.specs.Prelude.{◌≡◌, ℕ, List, ◌++◌, Option, Some, None}
 
 abbrev pub Gains : Option (List ℕ) → Option (List ℕ) → List ℕ → Type 0

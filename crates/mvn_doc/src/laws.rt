@@ -32,6 +32,6 @@ pub fn worked_documents()
     ensures sorted { text (settled worked.sorted_document worked.directory) ≡ worked.releases_text }
     ensures no_end { reading (codes "<metadata>") ≡ Err 10 }
     ensures other_close_tag { reading (codes "<metadata></metadatb>") ≡ Err 10 }
-    ensures text_behind { reading (codes "<metadata/>x") ≡ Err 11 }
+    ensures text_after { reading (codes "<metadata/>x") ≡ Err 11 }
     ensures document_type { reading (codes "<!DOCTYPE x><metadata/>") ≡ Err 0 }
 {}

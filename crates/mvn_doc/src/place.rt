@@ -163,7 +163,7 @@ fn enter(opened: &mut Vec<Place>, depth: usize, name: &[u8]) -> Result<Place, No
     Ok(place)
 }
 
-/// Places one more element behind those that are placed.
+/// Places one more element after those that are placed.
 fn add_placed<'a>(
     placed: &mut Vec<Placed<'a>>,
     opened: &mut Vec<Place>,

@@ -6,7 +6,7 @@ use mvn_metadata::NoMemory;
 use std::alloc::{AllocError, Global};
 use std::marker::Model;
 
-/// What is written so far, until memory is wanting: from then on nothing is written, and the text is lost.
+/// What is written so far, until memory runs out: from then on nothing is written, and the text is lost.
 #[derive(Drop)]
 pub(crate) struct Sheet {
     bytes: Vec<u8>,

@@ -123,7 +123,7 @@ pub(crate) fn build(stamp: Option<Stamp>, number: Option<u32>) -> Option<Build>
     Build::new(stamp?, number?)
 }
 
-/// What stands before the last `-`, and behind it.
+/// What stands before the last `-`, and after it.
 fn last_cut(bytes: &[u8]) -> Option<(&[u8], &[u8])>
     ensures { option_map (λ cut. (cut.0.now, cut.1.now)) result ≡ picked.last_cut bytes.now }
 {

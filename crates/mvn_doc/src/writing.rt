@@ -88,7 +88,7 @@ fn open_line(out: &mut Sheet, margin: &str, name: &str)
     out.word("\n");
 }
 
-/// The tag behind them.
+/// The tag after them.
 fn close_line(out: &mut Sheet, margin: &str, name: &str)
     ensures { Adds out.old out.new (margin.now ++ written.close_tag name.now ++ 10 ∷ []) }
 {

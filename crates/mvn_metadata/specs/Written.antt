@@ -17,7 +17,7 @@ open_tag name = 60 ∷ name ++ 62 ∷ []
 abbrev pub close_tag : List ℕ → List ℕ
 close_tag name = 60 ∷ 47 ∷ name ++ 62 ∷ []
 
--- an element on a line of its own, behind a margin
+-- an element on a line of its own, after a margin
 abbrev pub element : List ℕ → List ℕ → List ℕ → List ℕ
 element margin name value = margin ++ open_tag name ++ value ++ close_tag name ++ 10 ∷ []
 

@@ -45,7 +45,7 @@ seam_follows c (d ∷ cs) =
 abbrev pub dotted : List ℕ → Token
 dotted text = record { mark = Dot; text = text }
 
--- the first token behind another mark
+-- the first token after another mark
 abbrev pub marked : Mark → List Token → List Token
 marked m [] = []
 marked m (t ∷ ts) = record t { mark = m } ∷ ts
@@ -72,7 +72,7 @@ mark_bytes Dot = 46 ∷ []
 mark_bytes Dash = 45 ∷ []
 mark_bytes Seam = []
 
--- tokens one after another, each behind its mark
+-- tokens one after another, each after its mark
 abbrev pub written : List Token → List ℕ
 written [] = []
 written (t ∷ ts) = mark_bytes t.mark ++ (t.text ++ written ts)

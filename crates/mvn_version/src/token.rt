@@ -62,7 +62,7 @@ fn separator_mark(c: u8) -> Option<Mark>
     }
 }
 
-// Whether the text is cut behind `i` although no separator stands there.
+// Whether the text is cut after `i` although no separator stands there.
 fn seam_follows(text: &[u8], i: usize) -> bool
     requires { i < length text.now }
     ensures { result ≡ seam_follows (slice_index text.now i) (drop (i + 1) text.now) }

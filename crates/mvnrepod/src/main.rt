@@ -6,7 +6,7 @@ use run_system::{status_for, take_places};
 use std::process::ExitCode;
 use std::{env, io};
 
-/// The words behind the program's name; none where one of them is no text.
+/// The words after the program's name; none where one of them is no text.
 fn words_of(rt: &HostRuntime) -> io::Result<Vec<String>> {
     match env::args(rt) {
         Ok(args) => Ok(args.skip(1).collect(rt.alloc())?),

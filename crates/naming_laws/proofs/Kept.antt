@@ -10,7 +10,7 @@ use Rattle.repo_model.specs.declared.session.SessionResult.{SessionResult}
 use Rattle.repo_model.specs.Data.{Blob, Row, Phase, listed, fading, Staged, Session, is_same_print}
 use Rattle.repo_model.specs.Settings.{Settings}
 use Rattle.repo_model.specs.State.{State, change_where, is_row, row_at, rows_of, is_among}
-use Rattle.repo_model.specs.Effect.{Effect, drops, discards, relists, fades, expires, ends, keeps_doc, marks_missing, clears_mark, list_again, fade, with_effect, with_effects}
+use Rattle.repo_model.specs.Effect.{Effect, drops, discards, relists, fades, expires, ends, keeps_doc, adds_negative, clears_negative, list_again, fade, with_effect, with_effects}
 use Rattle.repo_model.specs.May.{May, AllMay}
 use Rattle.repo_model.specs.Command.{Command, put}
 use Rattle.repo_model.specs.Reply.{no_draft, taken, is_free}
@@ -64,8 +64,8 @@ all-discard id n result (file ∷ files) s = all-discard id n result files (with
 same-files : (id : List ℕ) (e : Effect) → is_left e ≡ true → (v : State) → files_of id (with_effect v e) ≡ files_of id v
 same-files id (drops n) is v = refl
 same-files id (keeps_doc at path document moment) is v = refl
-same-files id (marks_missing at path moment) is v = refl
-same-files id (clears_mark at path) is v = refl
+same-files id (adds_negative at path moment) is v = refl
+same-files id (clears_negative at path) is v = refl
 same-files id e is v = absurd (false≢true is)
 
 lands-none : (id : List ℕ) (es : List Effect) → AllByRecursion (λ e. (v : State) → files_of id (with_effect v e) ≡ files_of id v) es → (u : State) → files_of id (with_effects u es) ≡ files_of id u

@@ -191,7 +191,7 @@ module _ (n : ℕ) where
           by_shape bound (shape-lease settings s e.moment e.faults u (case-shape settings s e.moment e.command u (turn-case settings s e.moment e.command))
           (subst HasLease (state-determined settings s e bound) there))
 
--- what is there behind entries was there before them, and each of them kept it; or one of them gave it, and all behind that one kept it
+-- what is there after entries was there before them, and each of them kept it; or one of them gave it, and all after that one kept it
 module _ (settings : Settings) (Has : State → Type 0) (Keeps Gives : Entry → Type 0) (Left : List Entry → Type 0)
     (step : (s : State) (e : Entry) → Fits settings s e → Has (after settings s e) → (Has s × Keeps e) ⊎ Gives e)
     (first : (e : Entry) (entries : List Entry) → Gives e → AllByRecursion Keeps entries → Left (e ∷ entries))

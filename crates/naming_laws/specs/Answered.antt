@@ -1,4 +1,4 @@
--- How a file is answered behind an entry that served a document.
+-- How a file is answered after an entry that served a document.
 use Rattle.std.specs.Prelude.{ℕ, ◌+◌, List}
 use Rattle.repo_model.specs.Data.{Row}
 use Rattle.repo_model.specs.Settings.{Settings}

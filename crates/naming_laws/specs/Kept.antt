@@ -13,7 +13,7 @@ file_in row = (row.path, row.blob)
 abbrev pub files_of : List ℕ → State → List (List ℕ × Blob)
 files_of repo s = map file_in (rows_of repo s)
 
--- the replies of turns behind which there may be other files
+-- the replies of turns after which there may be other files
 abbrev pub may_change_files : Reply → Bool
 may_change_files created = true
 may_change_files (ended (Done n)) = true

@@ -7,12 +7,12 @@ use Rattle.repo_model.specs.Reply.{file}
 use Rattle.repo_model.specs.History.{Entry}
 use Rattle.repo_laws.specs.Replies.{spends, GivesDraft}
 
--- an entry gave the draft, and none behind it put, staged or dropped it
+-- an entry gave the draft, and none after it put, staged or dropped it
 abbrev pub IsDraftLeft : ℕ → List Entry → Type 0
 IsDraftLeft n entries =
     (before rest : List Entry) × (e : Entry) × (entries ≡ before ++ e ∷ rest) × GivesDraft n e.reply × AllByRecursion (λ (x : Entry). spends n x ≡ false) rest
 
--- an entry gave the lease with a file, and none behind it gave it back
+-- an entry gave the lease with a file, and none after it gave it back
 abbrev pub IsLeaseLeft : ℕ → List Entry → Type 0
 IsLeaseLeft n entries =
     (before rest : List Entry) × (e : Entry) × (blob : Blob) × (entries ≡ before ++ e ∷ rest) × (e.reply ≡ file n blob) × AllByRecursion (λ (x : Entry). x.command ≢ done n) rest

@@ -67,7 +67,7 @@ pub fn documents_name_their_rows()
 
 /// So, in a legal history, each file that a snapshot version of a served document gives is answered at that path, and of each
 /// version that is listed and no snapshot at least one file, and all of its visible ones: each with the blob that it had, up to the
-/// grace after that moment, or memory is wanting, or no lease is left.
+/// grace after that moment, or memory runs out, or no lease is left.
 pub fn given_files_are_answered()
     ensures snapshots { (settings : Settings) (s : State) (e : Entry) (later : List Entry) (repo : List ℕ) (d : Directory) (served : Document) (base : List ℕ)
         (newest : Option BuildOf) (entries : List metadata.Entry) → AreNamedApart settings.hosted → IsSound settings s → Legal settings s (e ∷ later)

@@ -13,7 +13,7 @@ ghost use Rattle.repo_model.specs.History.{Entry, Fits, Legal, is_collect, after
 ghost use Rattle.repo_laws.specs.Sound.{AreNamedApart, IsSound};
 ghost use Rattle.naming_laws.specs.Kept.{files_of, may_change_files, takes_away, KeepsFiles};
 
-/// Behind each reply but that a file was created, that a session is done or what was collected, each repository has the files
+/// After each reply but that a file was created, that a session is done or what was collected, each repository has the files
 /// that it had, with path, number, bytes and digests, and as many rows. So it is where a file is put at whose path a row stands.
 pub fn puts_again_keep_files()
     ensures files { (settings : Settings) (old : State) (e : Entry) (id : List ℕ) → Fits settings old e → may_change_files e.reply ≡ false
@@ -27,8 +27,8 @@ pub fn puts_again_keep_files()
         → (files_of id (after settings old e) ≡ files_of id old) × (length (rows_of id (after settings old e)) ≡ length (rows_of id old)) }
 {}
 
-/// Where a row stood, one stands behind each entry but a Collect, and behind a legal history without one, with the same number,
-/// bytes and digests: so behind a commit each file that was there keeps its own.
+/// Where a row stood, one stands after each entry but a Collect, and after a legal history without one, with the same number,
+/// bytes and digests: so after a commit each file that was there keeps its own.
 pub fn files_stay_until_collected()
     ensures effect { (grace now : ℕ) (s : State) (e : Effect) → May grace now s e → takes_away e ≡ false → KeepsFiles s (with_effect s e) }
     ensures entry { (settings : Settings) (old : State) (e : Entry) → AreNamedApart settings.hosted → IsSound settings old → Fits settings old e

@@ -138,7 +138,7 @@ module _ {X : Type 0} {G : Ghosts X} where
             ∙ ap (λ rows. shown_entry e ∷ rows) (removed path es sorted.1)
       ] refl
 
--- the rows that a loop has behind it, and one more
+-- the rows that a loop has after it, and one more
 pub shown_more : {X : Type 0} {G : Ghosts X} (seen : List (Bor (String Global) × Bor (Row X G))) (key : Bor (String Global)) (row : Bor (Row X G))
     → shown_rows (map deref_pair (seen ++ (key, row) ∷ [])) ≡ shown_rows (map deref_pair seen) ++ shown_at (string_bytes key.now) row.now ∷ []
 shown_more seen key row =

@@ -88,7 +88,7 @@ impl<H: Held> CountedRows<H> {
         has_home(&self.homes, home)
     }
 
-    /// Adds a row at a path that has none. Where memory is wanting its parcel comes back.
+    /// Adds a row at a path that has none. When memory runs out its parcel comes back.
     pub fn add(&mut self, alloc: Global, path: &str, row: Row<H>) -> Result<(), Parcel<H>>
         requires { row_at path.now self.old ≡ None }
         ensures ok { OnOk result (self.new ≡ with_row (shown_at path.now row) self.old) }

@@ -116,7 +116,7 @@ impl Reading {
         })
     }
 
-    /// The piece that was given last. Behind an end nothing is said of it.
+    /// The piece that was given last. After an end nothing is said of it.
     pub fn piece(&self) -> &[u8]
         ensures { result.now ≡ self.now.piece }
     {
@@ -135,7 +135,7 @@ impl Reading {
     }
 
     // Reads ahead, within the recorded length, where nothing is ahead. A read that gives less than was wanted found the blob's
-    // end, behind which none is made.
+    // end, after which none is made.
     fn look_ahead<B: Blobs>(&mut self, blobs: &mut B, held: &B::Held) -> Result<(), Failed>
         requires live { self.old.is_spent ≡ false }
         requires half { self.old.is_over ≡ false }
@@ -169,7 +169,7 @@ impl Reading {
         self.is_spent = true;
     }
 
-    // Reads what stands behind the recorded length, to the blob's end, and hashes it.
+    // Reads what stands after the recorded length, to the blob's end, and hashes it.
     fn read_on<B: Blobs>(&mut self, blobs: &mut B, held: &B::Held) -> Result<(), Failed>
         requires half { self.old.is_over ≡ false }
         requires spent { self.old.is_spent ≡ true }
@@ -223,7 +223,7 @@ impl Reading {
         })
     }
 
-    // Takes the piece that is ahead, and looks ahead of it. It says whether there is nothing behind it.
+    // Takes the piece that is ahead, and looks ahead of it. It says whether there is nothing after it.
     fn advance<B: Blobs>(&mut self, blobs: &mut B, held: &B::Held) -> Result<bool, Failed>
         requires live { self.old.is_spent ≡ false }
         requires half { self.old.is_over ≡ false }
@@ -253,7 +253,7 @@ impl Reading {
         Ok(self.given == self.at)
     }
 
-    // Reads what the blob has behind the recorded length, where it has so many bytes.
+    // Reads what the blob has after the recorded length, where it has so many bytes.
     fn read_past<B: Blobs>(&mut self, blobs: &mut B, held: &B::Held) -> Result<(), Failed>
         requires half { self.old.is_over ≡ false }
         requires spent { self.old.is_spent ≡ true }

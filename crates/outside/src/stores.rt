@@ -28,7 +28,7 @@ pub trait Pen: Drop {
 
 /// A store of blobs, each under a number.
 ///
-/// A call that fails, or that memory is wanting for, leaves the blobs that the store tells as they were.
+/// A call that fails, or that memory runs out for, leaves the blobs that the store tells as they were.
 pub trait Blobs {
     /// A stored blob in use.
     type Held: Held;
@@ -52,7 +52,7 @@ pub trait Blobs {
         ensures begun { OnOk result (shelf self.new ≡ without_bytes blob (shelf self.old)) }
         ensures kept { OnErr result (shelf self.new ≡ shelf self.old) };
 
-    /// Writes bytes behind those of a pen. A blob has at most 2^63 - 1 bytes: an append that would pass this is `Failed`.
+    /// Writes bytes after those of a pen. A blob has at most 2^63 - 1 bytes: an append that would pass this is `Failed`.
     fn append(&mut self, pen: &mut Self::Pen, bytes: &[u8]) -> Result<(), BlobFault>
         ensures cause { HasBlobCause (faults self.old) (faults self.new) result }
         ensures number { Self.Pen.number pen.new ≡ Self.Pen.number pen.old }

@@ -6,7 +6,7 @@ pub record Pauses : Type 0 where
   pub left : List Bool
   pub kept : List ℕ
 
--- the next answer; behind the last one it is false
+-- the next answer; after the last one it is false
 abbrev pub first_answer : List Bool → Bool
 first_answer [] = false
 first_answer (answer ∷ answers) = answer

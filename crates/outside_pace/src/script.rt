@@ -6,7 +6,7 @@ use std::alloc::{AllocError, Global};
 use std::marker::Model;
 use std::vec::IntoIter;
 
-/// A timer in memory: it gives the answers of a list at once, and `false` behind them. Its pauses take no memory.
+/// A timer in memory: it gives the answers of a list at once, and `false` after them. Its pauses take no memory.
 #[derive(Drop)]
 pub struct ScriptPace {
     left: IntoIter<bool>,

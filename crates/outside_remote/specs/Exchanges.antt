@@ -25,7 +25,7 @@ HasRemoteCause before after (Ok bytes) = after ≡ before
 HasRemoteCause before after (Err NoMemory) = after ≡ before
 HasRemoteCause before after (Err Failed) = Rose before after
 
--- the exchange is one of those made; where memory was wanting it may not have been
+-- the exchange is one of those made; when memory ran out it may not have been
 abbrev pub AddsExchange : Asked → Result (List ℕ) RemoteFault → Option (List Exchange) → Option (List Exchange) → Type 0
 AddsExchange asked (Ok bytes) old new = new ≡ behind old (exchanged asked (Ok bytes) ∷ [])
 AddsExchange asked (Err Failed) old new = new ≡ behind old (exchanged asked (Err Failed) ∷ [])

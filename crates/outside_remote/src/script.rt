@@ -10,8 +10,8 @@ use std::marker::Model;
 use texts::{Bytes, Text};
 
 /// A remote in memory, whatever the host. It gives the answers of a list, one an exchange, and keeps the exchanges that were
-/// made. Those that the script names fail, the first exchange having the number 0, and so do all behind the last answer. An
-/// exchange for which memory is wanting changes nothing.
+/// made. Those that the script names fail, the first exchange having the number 0, and so do all after the last answer. An
+/// exchange for which memory runs out changes nothing.
 #[derive(Drop)]
 pub struct ScriptRemote {
     answers: Vec<Bytes>,

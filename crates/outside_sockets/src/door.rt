@@ -25,7 +25,7 @@ const WAKER: u64 = u64::MAX - 1;
 
 const BYTES: u32 = c::EPOLLIN | c::EPOLLRDHUP | c::EPOLLONESHOT;
 
-// It is told of at once, but behind all that were told of before.
+// It is told of at once, but after all that were told of before.
 const TURN: u32 = c::EPOLLOUT | c::EPOLLONESHOT;
 
 /// What a desk that waits is told.

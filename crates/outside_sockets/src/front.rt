@@ -20,7 +20,7 @@ pub struct Front {
     end: usize,
     // What has come of the head that goes on at `looked`.
     head: Head,
-    // The length of the body behind the head that ends there, where one does.
+    // The length of the body after the head that ends there, where one does.
     body: Option<u64>,
 }
 

@@ -1,9 +1,9 @@
 //! Where the head of a request ends, and how long its body is (RFC 9112, 2.1, 2.2 and 6.2).
 //!
 //! This says which bytes a run is given at a time, and when it waits. The server judges each request by itself: one that it
-//! does not refuse, and behind whose answer the connection goes on, has its head and its body as they are found here.
+//! does not refuse, and after whose answer the connection goes on, has its head and its body as they are found here.
 
-// The field's name, and the colon behind it.
+// The field's name, and the colon after it.
 const NAME: &[u8] = b"content-length:";
 
 // What has come of a line.
@@ -13,13 +13,13 @@ enum Line {
     Blank,
     // The same, and a CR.
     BlankReturn,
-    // Nothing, behind a line that has bytes.
+    // Nothing, after a line that has bytes.
     Empty,
     // The same, and a CR.
     Return,
     // So many bytes of the field's name.
     Name(usize),
-    // The name, and behind it the digits of this number.
+    // The name, and after it the digits of this number.
     Length(u64),
     // Anything else.
     Other,

@@ -33,7 +33,7 @@ pub const COLD: u64 = 1_000;
 /// How many requests of one connection are served before it goes back to the doorman, where no desk waits.
 pub const RUN: u64 = 16;
 
-/// The same where a desk waits: fewer than behind which a served stream is closed.
+/// The same where a desk waits: fewer than after which a served stream is closed.
 pub const LONGEST_RUN: u64 = 500;
 
 /// How long a desk waits for one request more, in milliseconds.
@@ -48,7 +48,7 @@ pub const SLICE: u64 = 1_000;
 /// How long a request's body and its answer may be waited for at any speed, in microseconds.
 pub const GRACE: u64 = 10_000_000;
 
-/// How many bytes have to be moved behind that for each second that was waited for them, on average.
+/// How many bytes have to be moved after that for each second that was waited for them, on average.
 pub const SPEED: u64 = 4_096;
 
 /// How long to wait where the system has no room for a connection more, in milliseconds.

@@ -40,7 +40,7 @@ struct Run<N: OpenStream + Read + Write + Drop, T: Clock + Drop> {
     begun: u64,
     /// How many bytes of the last one were not given yet.
     left: u64,
-    /// Whether something was written behind it.
+    /// Whether something was written after it.
     answered: bool,
     effort: Effort,
     /// How long the system lets a read wait.

@@ -35,7 +35,7 @@ impl Held for FolderHeld {
     }
 }
 
-// The longest that stands behind a folder in the path of a number's file: a slash and the digits of 2^64 - 1.
+// The longest that stands after a folder in the path of a number's file: a slash and the digits of 2^64 - 1.
 const PATH_END: usize = 21;
 
 /// The blobs of a folder. Contracts see how many calls have failed; it tells no blobs.
@@ -86,7 +86,7 @@ impl<R: Files + AllocGlobal + Clone + Drop> FolderBlobs<R> {
         self.faults
     }
 
-    // What a call answers whose work ended so. Want of memory is not counted.
+    // What a call answers whose work ended so. Out of memory is not counted.
     fn counted<T: Drop>(&mut self, did: io::Result<T>) -> Result<T, BlobFault>
         ensures cause { HasBlobCause self.old self.new result }
         ensures value { IfOk result (λ value. did ≡ Ok value) }

@@ -1,4 +1,4 @@
--- Where a pass wants memory.
+-- Where a pass runs out of memory.
 use Rattle.std.proofs.Common.{◌≡◌, ◌⊎◌, inl, inr, ℕ, Bool, true, false, List, [], ◌∷◌, ◌++◌, map, Result, Ok, Err, refl, sym, subst, ap, ◌∙◌}
 use Rattle.std.specs.List.{AllByRecursion}
 use Rattle.std.proofs.lemmas.Bool.{false≢true}
@@ -29,7 +29,7 @@ all-fit settings (e ∷ entries) history s legal (before, rest, parts, lies) =
     let here = there settings before rest e s (subst (Legal settings s) parts legal) in
     (here.0, all-fit settings entries rest here.1.0 here.1.1 lies)
 
--- a reply that is free and counts as want of memory is want of memory
+-- a reply that is free and counts as out of memory is out of memory
 wants-free : (reply : Reply) → is_free reply ≡ true → NoMemory ≡ cause_of reply → reply ≡ no_memory
 wants-free no_memory free cause = refl
 wants-free store_fault free cause = cc

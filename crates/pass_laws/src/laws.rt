@@ -16,7 +16,7 @@ pub fn passes_ask()
         → (e : Entry) × (rest : List Entry) × (entries ≡ e ∷ rest) × (e.command ≡ first_asked repos) }
 {}
 
-/// A pass whose entries lie in a legal history wants memory only where a command of it was answered so, or where the removal of a blob
+/// A pass whose entries lie in a legal history runs out of memory only where a command of it was answered so, or where the removal of a blob
 /// wanted it.
 pub fn passes_want_memory_by_cause()
     ensures { (settings : Settings) (start end : State) (repos : List (List ℕ)) (entries : List Entry) (old new : Store) → IsWoven settings start entries end

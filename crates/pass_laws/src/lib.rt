@@ -1,4 +1,4 @@
-//! What each pass over the repositories asks at least, and why one wants memory.
+//! What each pass over the repositories asks at least, and why one runs out of memory.
 //!
 //! No function here has code: its contract is the law.
 #![tactic(auto)]

@@ -31,7 +31,7 @@ run_of_head : {A : Type 0} (rest : List A → Bool) (xs : List A) → rest xs �
 run_of_head rest [] h = h
 run_of_head rest (x ∷ xs) h = rw h refl
 
--- a verdict on what is left behind some front, where no longer end passes
+-- a verdict on what is left after some front, where no longer end passes
 pub by_end : {A : Type 0} (rest : List A → Bool) (xs left : List A) (v : Verdict) → run_then rest xs ≡ run_then rest left → v ≢ Differs
     → IsVerdict rest left v → IsVerdict (run_then rest) xs v
 by_end rest xs left Matches e ne h = e ∙ run_of_head rest left h

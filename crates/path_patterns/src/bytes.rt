@@ -30,7 +30,7 @@ fn match_bytes(pattern: &[u8], text: &[u8]) -> Verdict
         };
     };
     if *wanted == b'*' {
-        return match_behind_run(behind, text);
+        return match_after_run(behind, text);
     }
     let Some((byte, rest)) = text.split_first() else {
         return Verdict::RunsOut;
@@ -43,7 +43,7 @@ fn match_bytes(pattern: &[u8], text: &[u8]) -> Verdict
 
 /// How the ends of a text fare with it, the longest first.
 #[cycle(bytes)]
-fn match_behind_run(pattern: &[u8], text: &[u8]) -> Verdict
+fn match_after_run(pattern: &[u8], text: &[u8]) -> Verdict
     ensures { IsVerdict (spec.run_then (spec.segment_matches pattern.now)) text.now result }
 {
     let mut left = text;

@@ -66,8 +66,8 @@ impl Patterns {
         Ok(parsed)
     }
 
-    /// Adds a text at the end where it is a pattern, and leaves the list as it is where it is none, or where memory is
-    /// wanting.
+    /// Adds a text at the end where it is a pattern, and leaves the list as it is where it is none, or when
+    /// memory runs out.
     pub fn add(&mut self, text: &str) -> Result<(), AllocError>
         ensures ok { OnOk result (self.new ≡ self.old ++ filter is_pattern (text.now ∷ [])) }
         ensures err { OnErr result (self.new ≡ self.old) }

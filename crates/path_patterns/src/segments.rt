@@ -9,7 +9,7 @@ ghost use Rattle.path_patterns.specs.Verdict.{IsVerdict};
 use crate::bytes::segment_matches;
 use crate::verdict::Verdict;
 
-/// The first segment of a text, and the text of those behind it, if there are any.
+/// The first segment of a text, and the text of those after it, if there are any.
 pub(crate) fn split_segment(text: &[u8]) -> (&[u8], Option<&[u8]>)
     ensures { segments text.now ≡ result.0.now ∷ segments_left result.1 }
 {
@@ -46,7 +46,7 @@ pub(crate) fn match_segments(pattern: Option<&[u8]>, path: Option<&[u8]>) -> Ver
     };
     let (wanted, behind) = split_segment(pattern);
     if is_run(wanted) {
-        return match_behind_run(behind, path);
+        return match_after_run(behind, path);
     }
     let Some(path) = path else {
         return Verdict::RunsOut;
@@ -58,9 +58,9 @@ pub(crate) fn match_segments(pattern: Option<&[u8]>, path: Option<&[u8]>) -> Ver
     match_segments(behind, rest)
 }
 
-/// Whether the segments of a pattern match what is left of a path's behind some front.
+/// Whether the segments of a pattern match what is left of a path's after some front.
 #[cycle(segments)]
-fn match_behind_run(pattern: Option<&[u8]>, path: Option<&[u8]>) -> Verdict
+fn match_after_run(pattern: Option<&[u8]>, path: Option<&[u8]>) -> Verdict
     ensures { IsVerdict (run_then (segments_match (segments_left pattern.entry))) (segments_left path.entry) result }
 {
     let mut left = path;

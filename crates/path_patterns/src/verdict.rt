@@ -7,6 +7,6 @@ pub(crate) enum Verdict {
     Matches,
     /// It doesn't.
     Differs,
-    /// It doesn't, and neither does it match what is left of the text behind any front.
+    /// It doesn't, and neither does it match what is left of the text after any front.
     RunsOut,
 }

@@ -1,6 +1,6 @@
 pub mod KeyLemmas
 pub mod DocumentLemmas
-pub mod MarkLemmas
+pub mod NegativeLemmas
 pub mod RoomLemmas
 pub mod Results
 pub mod MomentLemmas

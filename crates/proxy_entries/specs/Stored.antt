@@ -1,4 +1,4 @@
--- The documents and marks of a proxy as the machine's plain data.
+-- The documents and negative entries of a proxy as the machine's plain data.
 use Rattle.std.specs.Prelude.{◌≤◌, ℕ, List, map, String, string_bytes}
 use Rattle.std.specs.declared.alloc.Global.{Global}
 use Rattle.std.specs.List.{AllByRecursion}
@@ -15,15 +15,15 @@ kept_entry e = shown_kept (string_bytes e.0) e.1
 abbrev pub shown_documents : List (String Global × Kept) → List plain.Kept
 shown_documents entries = map kept_entry entries
 
-abbrev pub shown_mark : List ℕ → ℕ → plain.Mark
-shown_mark path moment = record { path = path; moment = moment }
+abbrev pub shown_negative : List ℕ → ℕ → plain.NegativeEntry
+shown_negative path moment = record { path = path; moment = moment }
 
-abbrev pub mark_entry : String Global × ℕ → plain.Mark
-mark_entry e = shown_mark (string_bytes e.0) e.1
+abbrev pub negative_entry : String Global × ℕ → plain.NegativeEntry
+negative_entry e = shown_negative (string_bytes e.0) e.1
 
-abbrev pub shown_marks : List (String Global × ℕ) → List plain.Mark
-shown_marks entries = map mark_entry entries
+abbrev pub shown_negatives : List (String Global × ℕ) → List plain.NegativeEntry
+shown_negatives entries = map negative_entry entries
 
 -- each was asked for at a moment of a turn
-abbrev pub AreInTime : List plain.Mark → Type 0
-AreInTime marks = AllByRecursion (λ (m : plain.Mark). m.moment ≤ latest_moment) marks
+abbrev pub AreInTime : List plain.NegativeEntry → Type 0
+AreInTime negatives = AllByRecursion (λ (m : plain.NegativeEntry). m.moment ≤ latest_moment) negatives

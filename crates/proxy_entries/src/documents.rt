@@ -10,7 +10,7 @@ use mvn_metadata::NoMemory;
 use std::alloc::Global;
 use std::collections::BTreeMap;
 
-/// Puts a document at a path, in the place of the one that is there. Where memory is wanting nothing is changed.
+/// Puts a document at a path, in the place of the one that is there. When memory runs out nothing is changed.
 pub fn put(
     alloc: Global,
     documents: &mut BTreeMap<String, Kept>,

@@ -3,10 +3,10 @@
 
 mod documents;
 mod kept;
-mod marks;
+mod negatives;
 mod steps;
 
 pub use documents::{find, put, replace};
 pub use kept::Kept;
-pub use marks::{MOST_MARKS, mark, marked_at, unmark};
+pub use negatives::{MOST_NEGATIVES, add_negative, negative_at, remove_negative};
 pub use steps::{document_step, step_out};

@@ -1,14 +1,14 @@
-//! What a proxy does about a path at which it keeps no file, by what it keeps of documents and marks.
+//! What a proxy does about a path at which it keeps no file, by what it keeps of documents and negative entries.
 ghost use Rattle.std.specs.Prelude.{◌≡◌, ◌≤◌, ℕ, List, IfSome};
 ghost use Rattle.std.specs.Option.{option_map};
 ghost use Rattle.repo_model.specs.Data.{Proxy};
 ghost use Rattle.repo_model.specs.History.{latest_moment};
 ghost use Rattle.repo_model.specs.Proxies as spec;
-ghost use Rattle.proxy_entries.specs.Stored.{AreInTime, shown_documents, shown_mark, shown_marks};
+ghost use Rattle.proxy_entries.specs.Stored.{AreInTime, shown_documents, shown_negative, shown_negatives};
 
 use crate::documents::find;
 use crate::kept::Kept;
-use crate::marks::marked_at;
+use crate::negatives::negative_at;
 use repo_model::{Step, Update};
 use std::collections::BTreeMap;
 
@@ -40,30 +40,30 @@ fn asks_never(update: Update) -> bool
 }
 
 // Whether the remote had nothing a short time ago.
-fn is_marked(seconds: u64, marked: Option<u64>, now: u64) -> bool
+fn is_fresh_negative(seconds: u64, known_missing: Option<u64>, now: u64) -> bool
     requires few { seconds ≤ 86400 }
-    requires timely { IfSome marked (λ m. m ≤ latest_moment) }
-    ensures { (path : List ℕ) → result ≡ spec.is_marked seconds now (option_map (shown_mark path) marked) }
+    requires timely { IfSome known_missing (λ m. m ≤ latest_moment) }
+    ensures { (path : List ℕ) → result ≡ spec.is_fresh_negative seconds now (option_map (shown_negative path) known_missing) }
 {
-    match marked {
+    match known_missing {
         Some(moment) => now < moment + seconds,
         None => false,
     }
 }
 
 /// What a proxy does about a path at a moment where nothing that may be answered stands there, its remote being tried already or
-/// not: by how often it asks again, for how many seconds what the remote lacked counts as missing, and its marks.
+/// not: by how often it asks again, for how many seconds what the remote lacked counts as missing, and its negative entries.
 pub fn step_out(
     update: Update,
     seconds: u64,
-    marks: &BTreeMap<String, u64>,
+    negatives: &BTreeMap<String, u64>,
     path: &str,
     now: u64,
     tried: bool,
 ) -> Step
     requires few { seconds ≤ 86400 }
-    requires timely { AreInTime (shown_marks marks.now.entries) }
-    ensures { (p : Proxy) → p.rule.update ≡ update → p.rule.negative_seconds ≡ seconds → p.marks ≡ shown_marks marks.now.entries
+    requires timely { AreInTime (shown_negatives negatives.now.entries) }
+    ensures { (p : Proxy) → p.rule.update ≡ update → p.rule.negative_seconds ≡ seconds → p.negatives ≡ shown_negatives negatives.now.entries
         → result ≡ spec.step_out p now tried path.now }
 {
     if tried {
@@ -72,7 +72,7 @@ pub fn step_out(
     if asks_never(update) {
         return Step::Never;
     }
-    if is_marked(seconds, marked_at(marks, path), now) {
+    if is_fresh_negative(seconds, negative_at(negatives, path), now) {
         return Step::Negative;
     }
     Step::Fetch

@@ -27,7 +27,7 @@ use Rattle.repo_laws.proofs.Keeping.{keeps-sound, ends-sound}
 use Rattle.proxy_laws.specs.Limits.{kept_first}
 use Rattle.proxy_laws.specs.Decisions.{KeepsTooLittle}
 use Rattle.proxy_laws.proofs.Planning.{needed}
-use Rattle.proxy_laws.proofs.Staying.{landed-kept, file-behind-history}
+use Rattle.proxy_laws.proofs.Staying.{landed-kept, file-after-history}
 
 -- only a look is answered by a plan
 looks-alone : (settings : Settings) (s : State) (now : ℕ) (c : Command) (plan : Plan) → (turn settings s now c).reply ≡ fetches plan → (id path tried : List ℕ) × (c ≡ look id path tried)
@@ -72,7 +72,7 @@ never-again settings start before between later one other id path blob plan apar
     let (mid, (other_fits, _)) = parts settings between (other ∷ later) (after settings s one) rest in
     let row : Row = kept_first (row_at path (files_of id s)) (new_row path blob one.moment) in
     let kept = landed-kept settings s one id path blob s_sound one_fits lands in
-    let still = file-behind-history settings (after settings s one) between id path row apart (keeps-sound settings apart s one s_sound one_fits) mid kept in
+    let still = file-after-history settings (after settings s one) between id path row apart (keeps-sound settings apart s one s_sound one_fits) mid kept in
     let t : State = end settings (after settings s one) between in
     let (coordinates, file) = landed-path settings s one id path blob one_fits lands in
     no-plan-of-kept settings t other.moment other.command plan coordinates row (sym (reply-determined settings t other other_fits (ap is_free answers)) ∙ answers)

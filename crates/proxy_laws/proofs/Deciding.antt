@@ -14,8 +14,8 @@ use Rattle.repo_model.specs.declared.update.Update.TheVariants as update
 use Rattle.repo_model.specs.declared.step.Step.{Step}
 use Rattle.repo_model.specs.declared.step.Step.TheVariants.{Serve, Missed, Blocked, Negative, Never, Fetch}
 use Rattle.repo_model.specs.Data.{Kept, Proxy}
-use Rattle.repo_model.specs.State.{is_mark, row_at}
-use Rattle.repo_model.specs.Proxies.{kept_at, is_fresh, asks_never, is_marked, step_out, instead, step_for, document_step, decided}
+use Rattle.repo_model.specs.State.{is_negative_of, row_at}
+use Rattle.repo_model.specs.Proxies.{kept_at, is_fresh, asks_never, is_fresh_negative, step_out, instead, step_for, document_step, decided}
 use Rattle.proxy_laws.specs.Decisions.{IsSubject, IsLetThrough, IsFresh, IsMissing, IsUnasked, KeepsNothing, KeepsEnough, KeepsTooLittle, DecidedFor, DecidedBy}
 
 -- ---- tests and what they say
@@ -42,21 +42,21 @@ is-fresh update.Once checked now is = refl
 is-fresh _ checked now is = absurd is
 
 module _ (p : Proxy) (now : ℕ) (at : List ℕ) where
-  abbrev marked : Bool
-  marked = is_marked p.rule.negative_seconds now (find (is_mark at) p.marks)
+  abbrev known_missing : Bool
+  known_missing = is_fresh_negative p.rule.negative_seconds now (find (is_negative_of at) p.negatives)
 
-  missing-is : marked ≡ true → IsMissing p now at
+  missing-is : known_missing ≡ true → IsMissing p now at
   missing-is is =
-      elim (find (is_mark at) p.marks) as (λ found. find (is_mark at) p.marks ≡ found → is_marked p.rule.negative_seconds now found ≡ true → IsMissing p now at) [
+      elim (find (is_negative_of at) p.negatives) as (λ found. find (is_negative_of at) p.negatives ≡ found → is_fresh_negative p.rule.negative_seconds now found ≡ true → IsMissing p now at) [
         | None ↦ λ _ no. absurd (false≢true no)
         | (Some m) ↦ λ found counts. (m, found, ltb-true now (m.moment + p.rule.negative_seconds) counts)
       ] refl is
 
-  is-missing : IsMissing p now at → marked ≡ true
-  is-missing (m, found, counts) = ap (is_marked p.rule.negative_seconds now) found ∙ lt-ltb now (m.moment + p.rule.negative_seconds) counts
+  is-missing : IsMissing p now at → known_missing ≡ true
+  is-missing (m, found, counts) = ap (is_fresh_negative p.rule.negative_seconds now) found ∙ lt-ltb now (m.moment + p.rule.negative_seconds) counts
 
-  not-missing : (IsMissing p now at → ⊥) → marked ≡ false
-  not-missing other = false_from_ne_true marked (λ is. other (missing-is is))
+  not-missing : (IsMissing p now at → ⊥) → known_missing ≡ false
+  not-missing other = false_from_ne_true known_missing (λ is. other (missing-is is))
 
   module _ (tried : Bool) where
     -- ---- each decision has its cause
@@ -64,14 +64,14 @@ module _ (p : Proxy) (now : ℕ) (at : List ℕ) where
     out-caused : (k : Result Kind PathFault) → IsLetThrough p at → KeepsNothing p at k → KeepsTooLittle p now at k → DecidedFor p now tried at k (step_out p now tried at)
     out-caused k let_through nothing little =
         elim tried
-        as (λ b. tried ≡ b → DecidedFor p now tried at k (if b then Missed else if asks_never p.rule.update then Never else if marked then Negative else Fetch)) [
+        as (λ b. tried ≡ b → DecidedFor p now tried at k (if b then Missed else if asks_never p.rule.update then Never else if known_missing then Negative else Fetch)) [
           | true ↦ λ was. (let_through, nothing, was)
           | false ↦ λ untried.
               elim (asks_never p.rule.update)
-              as (λ b. asks_never p.rule.update ≡ b → DecidedFor p now tried at k (if b then Never else if marked then Negative else Fetch)) [
+              as (λ b. asks_never p.rule.update ≡ b → DecidedFor p now tried at k (if b then Never else if known_missing then Negative else Fetch)) [
                 | true ↦ λ never. (let_through, nothing, untried, never-is p.rule.update never)
                 | false ↦ λ asks.
-                    elim marked as (λ b. marked ≡ b → DecidedFor p now tried at k (if b then Negative else Fetch)) [
+                    elim known_missing as (λ b. known_missing ≡ b → DecidedFor p now tried at k (if b then Negative else Fetch)) [
                       | true ↦ λ counts. (let_through, nothing, untried, never-not p.rule.update asks, missing-is counts)
                       | false ↦ λ none. (let_through, little, untried, never-not p.rule.update asks, λ missing. false≢true (sym none ∙ is-missing missing))
                     ] refl
@@ -82,14 +82,14 @@ module _ (p : Proxy) (now : ℕ) (at : List ℕ) where
     stale-caused : (d : Directory) (kept : Kept) → IsLetThrough p at → kept_at at p.documents ≡ Some kept → KeepsTooLittle p now at (Ok (Doc d)) → DecidedFor p now tried at (Ok (Doc d)) (instead (step_out p now tried at))
     stale-caused d kept let_through found little =
         elim tried
-        as (λ b. tried ≡ b → DecidedFor p now tried at (Ok (Doc d)) (instead (if b then Missed else if asks_never p.rule.update then Never else if marked then Negative else Fetch))) [
+        as (λ b. tried ≡ b → DecidedFor p now tried at (Ok (Doc d)) (instead (if b then Missed else if asks_never p.rule.update then Never else if known_missing then Negative else Fetch))) [
           | true ↦ λ was. (let_through, (kept, found, inr (inl was)))
           | false ↦ λ untried.
               elim (asks_never p.rule.update)
-              as (λ b. asks_never p.rule.update ≡ b → DecidedFor p now tried at (Ok (Doc d)) (instead (if b then Never else if marked then Negative else Fetch))) [
+              as (λ b. asks_never p.rule.update ≡ b → DecidedFor p now tried at (Ok (Doc d)) (instead (if b then Never else if known_missing then Negative else Fetch))) [
                 | true ↦ λ never. (let_through, (kept, found, inr (inr (inl (never-is p.rule.update never)))))
                 | false ↦ λ asks.
-                    elim marked as (λ b. marked ≡ b → DecidedFor p now tried at (Ok (Doc d)) (instead (if b then Negative else Fetch))) [
+                    elim known_missing as (λ b. known_missing ≡ b → DecidedFor p now tried at (Ok (Doc d)) (instead (if b then Negative else Fetch))) [
                       | true ↦ λ counts. (let_through, (kept, found, inr (inr (inr (missing-is counts)))))
                       | false ↦ λ none. (let_through, little, untried, never-not p.rule.update asks, λ missing. false≢true (sym none ∙ is-missing missing))
                     ] refl
@@ -144,14 +144,14 @@ module _ (p : Proxy) (now : ℕ) (at : List ℕ) where
     unasked : IsUnasked p now tried at → instead (step_out p now tried at) ≡ Serve
     unasked (inl was) = rw was refl
     unasked (inr why) =
-        elim tried as (λ b. instead (if b then Missed else if asks_never p.rule.update then Never else if marked then Negative else Fetch) ≡ Serve) [
+        elim tried as (λ b. instead (if b then Missed else if asks_never p.rule.update then Never else if known_missing then Negative else Fetch) ≡ Serve) [
           | true ↦ refl
           | false ↦ untried why
         ] where
-          untried : (p.rule.update ≡ update.Never) ⊎ IsMissing p now at → instead (if asks_never p.rule.update then Never else if marked then Negative else Fetch) ≡ Serve
-          untried (inl never) = ap (λ b. instead (if b then Never else if marked then Negative else Fetch)) (ap asks_never never)
+          untried : (p.rule.update ≡ update.Never) ⊎ IsMissing p now at → instead (if asks_never p.rule.update then Never else if known_missing then Negative else Fetch) ≡ Serve
+          untried (inl never) = ap (λ b. instead (if b then Never else if known_missing then Negative else Fetch)) (ap asks_never never)
           untried (inr missing) =
-              elim (asks_never p.rule.update) as (λ b. instead (if b then Never else if marked then Negative else Fetch) ≡ Serve) [
+              elim (asks_never p.rule.update) as (λ b. instead (if b then Never else if known_missing then Negative else Fetch) ≡ Serve) [
                 | true ↦ refl
                 | false ↦ ap (λ b. instead (if b then Negative else Fetch)) (is-missing missing)
               ]
@@ -197,7 +197,7 @@ module _ (p : Proxy) (now : ℕ) (at : List ℕ) where
     comes : (k : Result Kind PathFault) (step : Step) → DecidedFor p now tried at k step → decided_for k ≡ step
     comes k Blocked blocked = ap (λ b. if b then step_for p now tried at k else Blocked) blocked
     comes k Serve (let_through, enough) = let-in k Serve let_through (enough-step k enough)
-    comes k Missed (let_through, nothing, was) = let-in k Missed let_through (nothing-step k nothing ∙ ap (λ b. if b then Missed else if asks_never p.rule.update then Never else if marked then Negative else Fetch) was)
+    comes k Missed (let_through, nothing, was) = let-in k Missed let_through (nothing-step k nothing ∙ ap (λ b. if b then Missed else if asks_never p.rule.update then Never else if known_missing then Negative else Fetch) was)
     comes k Never (let_through, nothing, untried, never) = let-in k Never let_through (nothing-step k nothing ∙ out-never untried never)
     comes k Negative (let_through, nothing, untried, asks, missing) = let-in k Negative let_through (nothing-step k nothing ∙ out-negative untried asks missing)
     comes k Fetch (let_through, little, untried, asks, present) = let-in k Fetch let_through (little-step k little (out-fetch untried asks present))

@@ -5,7 +5,7 @@ use Rattle.std.proofs.lemmas.Bool.{false≢true}
 use Rattle.repo_model.specs.declared.session.SessionResult.TheVariants.{Aborted, Done}
 use Rattle.repo_model.specs.Settings.{Settings}
 use Rattle.repo_model.specs.State.{State, rows_of}
-use Rattle.repo_model.specs.Effect.{Effect, caches, keeps_doc, marks_missing, clears_mark, with_effect, with_effects}
+use Rattle.repo_model.specs.Effect.{Effect, caches, keeps_doc, adds_negative, clears_negative, with_effect, with_effects}
 use Rattle.repo_model.specs.Command.{Command}
 use Rattle.repo_model.specs.Reply.{landed, is_free}
 use Rattle.repo_model.specs.Purge.{expire_all}
@@ -27,8 +27,8 @@ all-leave (e ∷ es) all s = all-leave es all.1 (with_effect s e) ∙ all.0 s
 bulk : (e : Effect) → is_bulk e ≡ true → Leaves e
 bulk (caches id path blob moment) is = absurd (false≢true is)
 bulk (keeps_doc id path document moment) is = absurd (false≢true is)
-bulk (marks_missing id path moment) is = absurd (false≢true is)
-bulk (clears_mark id path) is = absurd (false≢true is)
+bulk (adds_negative id path moment) is = absurd (false≢true is)
+bulk (clears_negative id path) is = absurd (false≢true is)
 bulk e is = λ s. refl
 
 module _ (settings : Settings) (s : State) (now : ℕ) where

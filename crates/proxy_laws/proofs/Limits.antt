@@ -1,4 +1,4 @@
--- The documents and marks of proxies stay in order, and there are never too many marks.
+-- The documents and negative entries of proxies stay in order, and there are never too many negative entries.
 use native.Mathlib.Omega.{arith}
 use Rattle.std.proofs.Common.{◌≡◌, ◌<◌, ◌≤◌, ◌+◌, ◌⊎◌, inl, inr, ℕ, Bool, true, false, not, cond, ◌||◌, List, [], ◌∷◌, map, length, Option, Some, None, refl, sym, ◌∙◌, ap, subst}
 use Rattle.std.specs.Prelude.{filter, find, fold, nat_le, bytes_eq, if◌then◌else◌}
@@ -14,10 +14,10 @@ use Rattle.std.proofs.lemmas.Cmp.{tied_itself}
 use Rattle.std.proofs.lemmas.List.Sums.{count_by-le-length, length-filter}
 use Rattle.std.proofs.lemmas.Option.{none-some}
 use Rattle.outside.specs.Moments.{Moments}
-use Rattle.repo_model.specs.Data.{Kept, Mark, Proxy}
+use Rattle.repo_model.specs.Data.{Kept, NegativeEntry, Proxy}
 use Rattle.repo_model.specs.Settings.{ProxyRule, Settings}
-use Rattle.repo_model.specs.State.{State, is_mark, is_proxy, new_proxy, opening}
-use Rattle.repo_model.specs.Effect.{Effect, caches, keeps_doc, marks_missing, clears_mark, with_kept, without_mark, is_older, older, without_oldest, most_marks, with_room, insert_mark, with_mark, proxy_after, with_effect, with_effects}
+use Rattle.repo_model.specs.State.{State, is_negative_of, is_proxy, new_proxy, opening}
+use Rattle.repo_model.specs.Effect.{Effect, caches, keeps_doc, adds_negative, clears_negative, with_kept, without_negative, is_older, older, without_oldest, most_negatives, with_room, insert_negative, with_negative, proxy_after, with_effect, with_effects}
 use Rattle.repo_model.specs.Tables.{Tables, RecordedDocument}
 use Rattle.repo_model.specs.Restart.{documents_of, proxy_from, started}
 use Rattle.repo_model.specs.History.{Entry, ticked, effects_of, after, end}
@@ -25,13 +25,13 @@ use Rattle.repo_laws.specs.Holds.{document_cmp, InOrder}
 use Rattle.repo_laws.proofs.HoldingLists.{all-change_first, find-gone, none-filter}
 use Rattle.repo_laws.proofs.Inserted.{inserted, inserted-ordered, filter-ordered, free-keyed, with_kept-is}
 use Rattle.repo_laws.proofs.Releases.{is_itself, same_path}
-use Rattle.proxy_laws.specs.Limits.{kept_cmp, mark_cmp, KeepsLimits, KeepLimits}
+use Rattle.proxy_laws.specs.Limits.{kept_cmp, negative_cmp, KeepsLimits, KeepLimits}
 
 kept-order : IsTotalOrder kept_cmp
 kept-order = on_total (λ (k : Kept). k.path) nat_list_cmp_total
 
-marks-order : IsTotalOrder mark_cmp
-marks-order = on_total (λ (m : Mark). m.path) nat_list_cmp_total
+negatives-order : IsTotalOrder negative_cmp
+negatives-order = on_total (λ (m : NegativeEntry). m.path) nat_list_cmp_total
 
 none-rise : {K : Type 0} (c : K → K → Ordering) → IsStrictlySortedBy c []
 unfolding IsStrictlySortedBy
@@ -42,24 +42,24 @@ with_kept-ordered : (new : Kept) (kept : List Kept) → IsStrictlySortedBy kept_
 with_kept-ordered new kept rising =
     subst (IsStrictlySortedBy kept_cmp) (sym (with_kept-is new kept)) (inserted-ordered kept_cmp kept-order false new kept (λ is. absurd (false≢true is)) rising)
 
--- one more mark, where there is none at its path
-insert_mark-is : (new : Mark) (marks : List Mark) → insert_mark new marks ≡ inserted mark_cmp true new marks
-insert_mark-is new [] = refl
-insert_mark-is new (m ∷ marks) = ap (λ rest. match_ordering (mark_cmp new m) (new ∷ m ∷ marks) (new ∷ m ∷ marks) (m ∷ rest)) (insert_mark-is new marks)
+-- one more negative entry, where there is none at its path
+insert_negative-is : (new : NegativeEntry) (negatives : List NegativeEntry) → insert_negative new negatives ≡ inserted negative_cmp true new negatives
+insert_negative-is new [] = refl
+insert_negative-is new (m ∷ negatives) = ap (λ rest. match_ordering (negative_cmp new m) (new ∷ m ∷ negatives) (new ∷ m ∷ negatives) (m ∷ rest)) (insert_negative-is new negatives)
 
-insert-ordered : (new : Mark) (marks : List Mark) → find (is_mark new.path) marks ≡ None → IsStrictlySortedBy mark_cmp marks → IsStrictlySortedBy mark_cmp (insert_mark new marks)
-insert-ordered new marks free rising =
-    subst (IsStrictlySortedBy mark_cmp) (sym (insert_mark-is new marks))
-    (inserted-ordered mark_cmp marks-order true new marks (λ _. free-keyed (λ (m : Mark). m.path) new marks free) rising)
+insert-ordered : (new : NegativeEntry) (negatives : List NegativeEntry) → find (is_negative_of new.path) negatives ≡ None → IsStrictlySortedBy negative_cmp negatives → IsStrictlySortedBy negative_cmp (insert_negative new negatives)
+insert-ordered new negatives free rising =
+    subst (IsStrictlySortedBy negative_cmp) (sym (insert_negative-is new negatives))
+    (inserted-ordered negative_cmp negatives-order true new negatives (λ _. free-keyed (λ (m : NegativeEntry). m.path) new negatives free) rising)
 
-insert-length : (new : Mark) (marks : List Mark) → length (insert_mark new marks) ≡ length marks + 1
+insert-length : (new : NegativeEntry) (negatives : List NegativeEntry) → length (insert_negative new negatives) ≡ length negatives + 1
 insert-length new [] = refl
-insert-length new (m ∷ marks) =
+insert-length new (m ∷ negatives) =
     elim (slice_cmp nat_cmp new.path m.path)
-    as (λ o. length (match_ordering o (new ∷ m ∷ marks) (new ∷ m ∷ marks) (m ∷ insert_mark new marks)) ≡ length (m ∷ marks) + 1) [
+    as (λ o. length (match_ordering o (new ∷ m ∷ negatives) (new ∷ m ∷ negatives) (m ∷ insert_negative new negatives)) ≡ length (m ∷ negatives) + 1) [
       | Less ↦ omega arith
       | Equal ↦ omega arith
-      | Greater ↦ omega (arith, insert-length new marks)
+      | Greater ↦ omega (arith, insert-length new negatives)
     ]
 
 module _ {X : Type 0} where
@@ -76,107 +76,107 @@ module _ {X : Type 0} where
         | false ↦ λ later. omega (arith, one-less q xs later)
       ] any
 
--- the oldest mark is one of them
-mark-there : (x m : Mark) → x ≡ m → is_mark m.path x ≡ true
-mark-there x m same = subst (λ (y : Mark). is_mark y.path x ≡ true) same (is_itself x.path)
+-- the oldest negative entry is one of them
+negative-there : (x m : NegativeEntry) → x ≡ m → is_negative_of m.path x ≡ true
+negative-there x m same = subst (λ (y : NegativeEntry). is_negative_of y.path x ≡ true) same (is_itself x.path)
 
-abbrev Among : List Mark → Mark → Option Mark → Type 0
-Among marks m best = (best ≡ Some m) ⊎ (list_any (is_mark m.path) marks ≡ true)
+abbrev Among : List NegativeEntry → NegativeEntry → Option NegativeEntry → Type 0
+Among negatives m best = (best ≡ Some m) ⊎ (list_any (is_negative_of m.path) negatives ≡ true)
 
-module _ (marks : List Mark) (x m : Mark) where
-  newer : (best : Option Mark) → Among marks m (Some x) → Among (x ∷ marks) m best
-  newer best (inl here) = let same : x ≡ m = cc in inr (or_left (is_mark m.path x) (list_any (is_mark m.path) marks) (mark-there x m same))
-  newer best (inr later) = inr (or_right (is_mark m.path x) (list_any (is_mark m.path) marks) later)
+module _ (negatives : List NegativeEntry) (x m : NegativeEntry) where
+  newer : (best : Option NegativeEntry) → Among negatives m (Some x) → Among (x ∷ negatives) m best
+  newer best (inl here) = let same : x ≡ m = cc in inr (or_left (is_negative_of m.path x) (list_any (is_negative_of m.path) negatives) (negative-there x m same))
+  newer best (inr later) = inr (or_right (is_negative_of m.path x) (list_any (is_negative_of m.path) negatives) later)
 
-  as-old : (best : Mark) → Among marks m (Some best) → Among (x ∷ marks) m (Some best)
+  as-old : (best : NegativeEntry) → Among negatives m (Some best) → Among (x ∷ negatives) m (Some best)
   as-old best (inl here) = inl here
-  as-old best (inr later) = inr (or_right (is_mark m.path x) (list_any (is_mark m.path) marks) later)
+  as-old best (inr later) = inr (or_right (is_negative_of m.path x) (list_any (is_negative_of m.path) negatives) later)
 
-oldest : (marks : List Mark) (best : Option Mark) (m : Mark) → fold older best marks ≡ Some m → Among marks m best
+oldest : (negatives : List NegativeEntry) (best : Option NegativeEntry) (m : NegativeEntry) → fold older best negatives ≡ Some m → Among negatives m best
 oldest [] best m is = inl is
-oldest (x ∷ marks) None m is = newer marks x m None (oldest marks (Some x) m is)
-oldest (x ∷ marks) (Some best) m is =
-    elim (is_older x best) as (λ b. fold older (Some (if b then x else best)) marks ≡ Some m → Among (x ∷ marks) m (Some best)) [
-      | true ↦ λ now. newer marks x m (Some best) (oldest marks (Some x) m now)
-      | false ↦ λ now. as-old marks x m best (oldest marks (Some best) m now)
+oldest (x ∷ negatives) None m is = newer negatives x m None (oldest negatives (Some x) m is)
+oldest (x ∷ negatives) (Some best) m is =
+    elim (is_older x best) as (λ b. fold older (Some (if b then x else best)) negatives ≡ Some m → Among (x ∷ negatives) m (Some best)) [
+      | true ↦ λ now. newer negatives x m (Some best) (oldest negatives (Some x) m now)
+      | false ↦ λ now. as-old negatives x m best (oldest negatives (Some best) m now)
     ] is
 
-some-oldest : (marks : List Mark) (best : Mark) → fold older (Some best) marks ≡ None → ⊥
+some-oldest : (negatives : List NegativeEntry) (best : NegativeEntry) → fold older (Some best) negatives ≡ None → ⊥
 some-oldest [] best is = none-some best (sym is)
-some-oldest (x ∷ marks) best is = some-oldest marks (if is_older x best then x else best) is
+some-oldest (x ∷ negatives) best is = some-oldest negatives (if is_older x best then x else best) is
 
-none-empty : (marks : List Mark) → fold older None marks ≡ None → length marks ≡ 0
+none-empty : (negatives : List NegativeEntry) → fold older None negatives ≡ None → length negatives ≡ 0
 none-empty [] is = refl
-none-empty (x ∷ marks) is = absurd (some-oldest marks x is)
+none-empty (x ∷ negatives) is = absurd (some-oldest negatives x is)
 
 -- room for one more
-oldest-gone : (marks : List Mark) → most_marks ≤ length marks → (found : Option Mark) → fold older None marks ≡ found → length (without_oldest found marks) < length marks
-oldest-gone marks many None none = omega (arith, many, none-empty marks none)
-oldest-gone marks many (Some m) is = by (oldest marks None m is) where
-  by : (None ≡ Some m) ⊎ (list_any (is_mark m.path) marks ≡ true) → length (without_mark m.path marks) < length marks
+oldest-gone : (negatives : List NegativeEntry) → most_negatives ≤ length negatives → (found : Option NegativeEntry) → fold older None negatives ≡ found → length (without_oldest found negatives) < length negatives
+oldest-gone negatives many None none = omega (arith, many, none-empty negatives none)
+oldest-gone negatives many (Some m) is = by (oldest negatives None m is) where
+  by : (None ≡ Some m) ⊎ (list_any (is_negative_of m.path) negatives ≡ true) → length (without_negative m.path negatives) < length negatives
   by (inl never) = absurd (none-some m never)
-  by (inr there) = one-less (is_mark m.path) marks there
+  by (inr there) = one-less (is_negative_of m.path) negatives there
 
-module _ (marks : List Mark) where
-  room-few : length marks ≤ most_marks → length (with_room marks) < most_marks
+module _ (negatives : List NegativeEntry) where
+  room-few : length negatives ≤ most_negatives → length (with_room negatives) < most_negatives
   room-few few =
-      elim (nat_le most_marks (length marks))
-      as (λ b. nat_le most_marks (length marks) ≡ b → length (if b then without_oldest (fold older None marks) marks else marks) < most_marks) [
-        | true ↦ λ is. omega (arith, few, oldest-gone marks (leb-true most_marks (length marks) is) (fold older None marks) refl)
-        | false ↦ λ is. omega (arith, leb-false most_marks (length marks) is)
+      elim (nat_le most_negatives (length negatives))
+      as (λ b. nat_le most_negatives (length negatives) ≡ b → length (if b then without_oldest (fold older None negatives) negatives else negatives) < most_negatives) [
+        | true ↦ λ is. omega (arith, few, oldest-gone negatives (leb-true most_negatives (length negatives) is) (fold older None negatives) refl)
+        | false ↦ λ is. omega (arith, leb-false most_negatives (length negatives) is)
       ] refl
 
-  without-keeps : (P : List Mark → Type 0) → ((q : Mark → Bool) → P (filter q marks)) → P marks → (found : Option Mark) → P (without_oldest found marks)
+  without-keeps : (P : List NegativeEntry → Type 0) → ((q : NegativeEntry → Bool) → P (filter q negatives)) → P negatives → (found : Option NegativeEntry) → P (without_oldest found negatives)
   without-keeps P so here None = here
-  without-keeps P so here (Some m) = so (λ x. not (is_mark m.path x))
+  without-keeps P so here (Some m) = so (λ x. not (is_negative_of m.path x))
 
-  -- what marks have, and some of them, those with room have
-  room-keeps : (P : List Mark → Type 0) → ((q : Mark → Bool) → P (filter q marks)) → P marks → P (with_room marks)
+  -- what negative entries have, and some of them, those with room have
+  room-keeps : (P : List NegativeEntry → Type 0) → ((q : NegativeEntry → Bool) → P (filter q negatives)) → P negatives → P (with_room negatives)
   room-keeps P so here =
-      elim (nat_le most_marks (length marks)) as (λ b. P (if b then without_oldest (fold older None marks) marks else marks)) [
-        | true ↦ without-keeps P so here (fold older None marks)
+      elim (nat_le most_negatives (length negatives)) as (λ b. P (if b then without_oldest (fold older None negatives) negatives else negatives)) [
+        | true ↦ without-keeps P so here (fold older None negatives)
         | false ↦ here
       ]
 
-marked-limits : (new : Mark) (marks : List Mark) → IsStrictlySortedBy mark_cmp marks → length marks ≤ most_marks
-    → IsStrictlySortedBy mark_cmp (with_mark new marks) × (length (with_mark new marks) ≤ most_marks)
-marked-limits new marks rising few =
-    let rest : List Mark = without_mark new.path marks in
-    let ordered : IsStrictlySortedBy mark_cmp rest = filter-ordered mark_cmp marks-order (λ m. not (is_mark new.path m)) marks rising in
-    let free : find (is_mark new.path) rest ≡ None = find-gone (is_mark new.path) marks in
-    let room_free : find (is_mark new.path) (with_room rest) ≡ None =
-    room-keeps rest (λ xs. find (is_mark new.path) xs ≡ None) (λ q. none-filter (is_mark new.path) q rest free) free in
-    let room_ordered : IsStrictlySortedBy mark_cmp (with_room rest) =
-    room-keeps rest (IsStrictlySortedBy mark_cmp) (λ q. filter-ordered mark_cmp marks-order q rest ordered) ordered in (
+negatives-limits : (new : NegativeEntry) (negatives : List NegativeEntry) → IsStrictlySortedBy negative_cmp negatives → length negatives ≤ most_negatives
+    → IsStrictlySortedBy negative_cmp (with_negative new negatives) × (length (with_negative new negatives) ≤ most_negatives)
+negatives-limits new negatives rising few =
+    let rest : List NegativeEntry = without_negative new.path negatives in
+    let ordered : IsStrictlySortedBy negative_cmp rest = filter-ordered negative_cmp negatives-order (λ m. not (is_negative_of new.path m)) negatives rising in
+    let free : find (is_negative_of new.path) rest ≡ None = find-gone (is_negative_of new.path) negatives in
+    let room_free : find (is_negative_of new.path) (with_room rest) ≡ None =
+    room-keeps rest (λ xs. find (is_negative_of new.path) xs ≡ None) (λ q. none-filter (is_negative_of new.path) q rest free) free in
+    let room_ordered : IsStrictlySortedBy negative_cmp (with_room rest) =
+    room-keeps rest (IsStrictlySortedBy negative_cmp) (λ q. filter-ordered negative_cmp negatives-order q rest ordered) ordered in (
       insert-ordered new (with_room rest) room_free room_ordered,
-      omega (arith, insert-length new (with_room rest), room-few rest (omega (arith, few, fewer (λ (m : Mark). not (is_mark new.path m)) marks))),
+      omega (arith, insert-length new (with_room rest), room-few rest (omega (arith, few, fewer (λ (m : NegativeEntry). not (is_negative_of new.path m)) negatives))),
     )
 
 -- each effect at a proxy
 document-limits : (p : Proxy) (new : Kept) → KeepsLimits p → KeepsLimits (record p { documents = with_kept new p.documents })
-document-limits p new old = record { documents = with_kept-ordered new p.documents old.documents; marks = old.marks; few = old.few }
+document-limits p new old = record { documents = with_kept-ordered new p.documents old.documents; negatives = old.negatives; few = old.few }
 
-mark-limits : (p : Proxy) (new : Mark) → KeepsLimits p → KeepsLimits (record p { marks = with_mark new p.marks })
-mark-limits p new old =
-    let (ordered, few) = marked-limits new p.marks old.marks old.few in
-    record { documents = old.documents; marks = ordered; few = few }
+negative-limits : (p : Proxy) (new : NegativeEntry) → KeepsLimits p → KeepsLimits (record p { negatives = with_negative new p.negatives })
+negative-limits p new old =
+    let (ordered, few) = negatives-limits new p.negatives old.negatives old.few in
+    record { documents = old.documents; negatives = ordered; few = few }
 
-unmark-limits : (p : Proxy) (path : List ℕ) → KeepsLimits p → KeepsLimits (record p { marks = without_mark path p.marks })
-unmark-limits p path old = record {
+remove_negative-limits : (p : Proxy) (path : List ℕ) → KeepsLimits p → KeepsLimits (record p { negatives = without_negative path p.negatives })
+remove_negative-limits p path old = record {
   documents = old.documents;
-  marks = filter-ordered mark_cmp marks-order (λ m. not (is_mark path m)) p.marks old.marks;
-  few = omega (arith, old.few, fewer (λ (m : Mark). not (is_mark path m)) p.marks);
+  negatives = filter-ordered negative_cmp negatives-order (λ m. not (is_negative_of path m)) p.negatives old.negatives;
+  few = omega (arith, old.few, fewer (λ (m : NegativeEntry). not (is_negative_of path m)) p.negatives);
 }
 
 pub effect-limits : (s : State) (e : Effect) → KeepLimits s → KeepLimits (with_effect s e)
 effect-limits s (caches id path blob moment) old =
-    all-change_first KeepsLimits (is_proxy id) (proxy_after (caches id path blob moment)) (λ p was. record { documents = was.documents; marks = was.marks; few = was.few }) s.proxies old
+    all-change_first KeepsLimits (is_proxy id) (proxy_after (caches id path blob moment)) (λ p was. record { documents = was.documents; negatives = was.negatives; few = was.few }) s.proxies old
 effect-limits s (keeps_doc id path document moment) old =
     all-change_first KeepsLimits (is_proxy id) (proxy_after (keeps_doc id path document moment))
     (λ p. document-limits p (record { path = path; checked = moment; document = document })) s.proxies old
-effect-limits s (marks_missing id path moment) old =
-    all-change_first KeepsLimits (is_proxy id) (proxy_after (marks_missing id path moment)) (λ p. mark-limits p (record { path = path; moment = moment })) s.proxies old
-effect-limits s (clears_mark id path) old = all-change_first KeepsLimits (is_proxy id) (proxy_after (clears_mark id path)) (λ p. unmark-limits p path) s.proxies old
+effect-limits s (adds_negative id path moment) old =
+    all-change_first KeepsLimits (is_proxy id) (proxy_after (adds_negative id path moment)) (λ p. negative-limits p (record { path = path; moment = moment })) s.proxies old
+effect-limits s (clears_negative id path) old = all-change_first KeepsLimits (is_proxy id) (proxy_after (clears_negative id path)) (λ p. remove_negative-limits p path) s.proxies old
 effect-limits s e old = old
 
 effects-limits : (es : List Effect) (s : State) → KeepLimits s → KeepLimits (with_effects s es)
@@ -193,7 +193,7 @@ history-limits settings start (e ∷ entries) keeps = history-limits settings (a
 -- the opening state, and a start
 new-limits : (rules : List ProxyRule) → AllByRecursion KeepsLimits (map new_proxy rules)
 new-limits [] = tt
-new-limits (rule ∷ rules) = (record { documents = none-rise kept_cmp; marks = none-rise mark_cmp; few = omega arith }, new-limits rules)
+new-limits (rule ∷ rules) = (record { documents = none-rise kept_cmp; negatives = none-rise negative_cmp; few = omega arith }, new-limits rules)
 
 pub opening-limits : (settings : Settings) (clock : Option Moments) → KeepLimits (opening settings clock)
 opening-limits settings clock = new-limits settings.proxies
@@ -232,7 +232,7 @@ module _ (tells : ℕ → Option (List ℕ)) (t : Tables) (order : InOrder t) wh
   from-limits : (rules : List ProxyRule) → AllByRecursion KeepsLimits (map (proxy_from tells t) rules)
   from-limits [] = tt
   from-limits (rule ∷ rules) =
-      (record { documents = documents-rise rule.id t.documents order.documents; marks = none-rise mark_cmp; few = omega arith }, from-limits rules)
+      (record { documents = documents-rise rule.id t.documents order.documents; negatives = none-rise negative_cmp; few = omega arith }, from-limits rules)
 
 pub started-limits : (settings : Settings) (tells : ℕ → Option (List ℕ)) (stored : List ℕ) (clock : Option Moments) (faults : ℕ) (t : Tables)
     → InOrder t → KeepLimits (started settings tells stored clock faults t)

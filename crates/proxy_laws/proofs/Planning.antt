@@ -159,23 +159,23 @@ module _ (s : State) (now : ℕ) (tried path : List ℕ) (m : ℕ) (r : ProxyRul
 
 module _ (settings : Settings) (s : State) (now : ℕ) (id path tried : List ℕ) (plan : Plan) where
   abbrev IsNeeded : List ℕ → Plan → Type 0
-  IsNeeded marked plan = (p : Proxy) × (proxy_of plan.proxy s ≡ Some p) × DecidedBy p now (is_among plan.member marked) plan.path Fetch
+  IsNeeded known_missing plan = (p : Proxy) × (proxy_of plan.proxy s ≡ Some p) × DecidedBy p now (is_among plan.member known_missing) plan.path Fetch
 
   case-needed : (c : Command) (t : Turn) → Case settings s now c t → c ≡ look id path tried → t.reply ≡ fetches plan → IsNeeded tried plan
-  case-needed c t (plans_file repo on marked member rule at more seen) c_is says_so =
-      let looks : look repo on marked ≡ look id path tried = c_is in
-      let marked_is : marked ≡ tried = cc in
+  case-needed c t (plans_file repo on known_missing member rule at more seen) c_is says_so =
+      let looks : look repo on known_missing ≡ look id path tried = c_is in
+      let known_missing_is : known_missing ≡ tried = cc in
       let said : fetches (plan_of member rule at (Some s.yard.next_draft) (file_limit settings)) ≡ fetches plan = says_so in
       let plan_so : plan_of member rule at (Some s.yard.next_draft) (file_limit settings) ≡ plan = cc in
-      subst (λ (x : List ℕ). IsNeeded x plan) marked_is (subst (λ (x : Plan). IsNeeded marked x) plan_so
-      (decided-needed s now marked on member rule at true (look-decides s now marked on member rule at true settings repo seen)))
-  case-needed c t (plans_document repo on marked member rule at seen) c_is says_so =
-      let looks : look repo on marked ≡ look id path tried = c_is in
-      let marked_is : marked ≡ tried = cc in
+      subst (λ (x : List ℕ). IsNeeded x plan) known_missing_is (subst (λ (x : Plan). IsNeeded known_missing x) plan_so
+      (decided-needed s now known_missing on member rule at true (look-decides s now known_missing on member rule at true settings repo seen)))
+  case-needed c t (plans_document repo on known_missing member rule at seen) c_is says_so =
+      let looks : look repo on known_missing ≡ look id path tried = c_is in
+      let known_missing_is : known_missing ≡ tried = cc in
       let said : fetches (plan_of member rule at None longest_document) ≡ fetches plan = says_so in
       let plan_so : plan_of member rule at None longest_document ≡ plan = cc in
-      subst (λ (x : List ℕ). IsNeeded x plan) marked_is (subst (λ (x : Plan). IsNeeded marked x) plan_so
-      (decided-needed s now marked on member rule at false (look-decides s now marked on member rule at false settings repo seen)))
+      subst (λ (x : List ℕ). IsNeeded x plan) known_missing_is (subst (λ (x : Plan). IsNeeded known_missing x) plan_so
+      (decided-needed s now known_missing on member rule at false (look-decides s now known_missing on member rule at false settings repo seen)))
   case-needed c t case c_is says_so = absurd (cc)
 
 pub needed : (settings : Settings) (s : State) (now : ℕ) (id path tried : List ℕ) (plan : Plan) → (turn settings s now (look id path tried)).reply ≡ fetches plan

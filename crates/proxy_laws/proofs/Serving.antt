@@ -41,7 +41,7 @@ rule-found id (p ∷ proxies) =
 not-hosted : (settings : Settings) (s : State) (id : List ℕ) → Sound settings s → is_there id settings ≡ false → hosted_of id s ≡ None
 not-hosted settings s id order not = any-none (is_repository id) s.hosted (there-as-set settings s id order.rules ∙ not)
 
--- a proxy that keeps a file serves it, be it that its remote was tried
+-- a proxy that keeps a file serves it, even if its remote was tried
 serves : (p : Proxy) (now : ℕ) (tried path : List ℕ) (c : Coordinates) (row : Row) → IsTrue (is_let_through p.rule.allow p.rule.block path) → kind path ≡ Ok (File c)
     → row_at path p.files ≡ Some row → decided p now (is_among 0 tried) path ≡ Serve
 serves p now tried path c row lets kind_is found =

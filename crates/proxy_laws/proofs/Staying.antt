@@ -12,7 +12,7 @@ use Rattle.repo_model.specs.Data.{Blob, Row, Kept, Proxy}
 use Rattle.repo_model.specs.Settings.{Settings}
 use Rattle.repo_model.specs.State.{State, is_proxy, row_at, files_of}
 use Rattle.repo_model.specs.Proxies.{kept_at}
-use Rattle.repo_model.specs.Effect.{Effect, caches, keeps_doc, marks_missing, clears_mark, with_row, new_row, proxy_after, with_effect, with_effects}
+use Rattle.repo_model.specs.Effect.{Effect, caches, keeps_doc, adds_negative, clears_negative, with_row, new_row, proxy_after, with_effect, with_effects}
 use Rattle.repo_model.specs.May.{May}
 use Rattle.repo_model.specs.Command.{Command, land, proxy_rule_of, is_landing, meets}
 use Rattle.repo_model.specs.Reply.{Reply, landed, no_draft, is_free}
@@ -45,10 +45,10 @@ file-stays grace now s (caches at new blob moment) id path row may is =
     ∙ old)
 file-stays grace now s (keeps_doc at new document moment) id path row may is =
     files-changed id at (proxy_after (keeps_doc at new document moment)) (λ p. refl) (λ rows. row_at path rows ≡ Some row) s.proxies is (λ p at_is found old. old)
-file-stays grace now s (marks_missing at new moment) id path row may is =
-    files-changed id at (proxy_after (marks_missing at new moment)) (λ p. refl) (λ rows. row_at path rows ≡ Some row) s.proxies is (λ p at_is found old. old)
-file-stays grace now s (clears_mark at new) id path row may is =
-    files-changed id at (proxy_after (clears_mark at new)) (λ p. refl) (λ rows. row_at path rows ≡ Some row) s.proxies is (λ p at_is found old. old)
+file-stays grace now s (adds_negative at new moment) id path row may is =
+    files-changed id at (proxy_after (adds_negative at new moment)) (λ p. refl) (λ rows. row_at path rows ≡ Some row) s.proxies is (λ p at_is found old. old)
+file-stays grace now s (clears_negative at new) id path row may is =
+    files-changed id at (proxy_after (clears_negative at new)) (λ p. refl) (λ rows. row_at path rows ≡ Some row) s.proxies is (λ p at_is found old. old)
 file-stays grace now s e id path row may is = is
 
 module _ (settings : Settings) (apart : AreNamedApart settings.hosted) (id path : List ℕ) (row : Row) where
@@ -61,19 +61,19 @@ module _ (settings : Settings) (apart : AreNamedApart settings.hosted) (id path 
   history-stays (e ∷ entries) start sound legal is =
       history-stays entries (after settings start e) (sound-entry settings apart start e legal.0 sound) legal.1 (entry-stays start e sound legal.0 is)
 
-pub file-behind-entry : (settings : Settings) (old : State) (e : Entry) (id path : List ℕ) (row : Row) → AreNamedApart settings.hosted → IsSound settings old → Fits settings old e
+pub file-after-entry : (settings : Settings) (old : State) (e : Entry) (id path : List ℕ) (row : Row) → AreNamedApart settings.hosted → IsSound settings old → Fits settings old e
     → row_at path (files_of id old) ≡ Some row → row_at path (files_of id (after settings old e)) ≡ Some row
-file-behind-entry settings old e id path row apart sound fits is = entry-stays settings apart id path row old e sound.order fits is
+file-after-entry settings old e id path row apart sound fits is = entry-stays settings apart id path row old e sound.order fits is
 
-pub file-behind-history : (settings : Settings) (start : State) (entries : List Entry) (id path : List ℕ) (row : Row) → AreNamedApart settings.hosted → IsSound settings start
+pub file-after-history : (settings : Settings) (start : State) (entries : List Entry) (id path : List ℕ) (row : Row) → AreNamedApart settings.hosted → IsSound settings start
     → Legal settings start entries → row_at path (files_of id start) ≡ Some row → row_at path (files_of id (end settings start entries)) ≡ Some row
-file-behind-history settings start entries id path row apart sound legal is = history-stays settings apart id path row entries start sound.order legal is
+file-after-history settings start entries id path row apart sound legal is = history-stays settings apart id path row entries start sound.order legal is
 
 -- ---- what lands
--- a mark that is cleared changes no file, and neither does a draft that is given up
-cleared-files : (id at path : List ℕ) (found : Option Row) (s : State) → row_at path (files_of id s) ≡ found → row_at path (files_of id (with_effect s (clears_mark at path))) ≡ found
+-- a negative entry that is cleared changes no file, and neither does a draft that is given up
+cleared-files : (id at path : List ℕ) (found : Option Row) (s : State) → row_at path (files_of id s) ≡ found → row_at path (files_of id (with_effect s (clears_negative at path))) ≡ found
 cleared-files id at path found s is =
-    files-changed id at (proxy_after (clears_mark at path)) (λ p. refl) (λ rows. row_at path rows ≡ found) s.proxies is (λ p at_is there old. old)
+    files-changed id at (proxy_after (clears_negative at path)) (λ p. refl) (λ rows. row_at path rows ≡ found) s.proxies is (λ p at_is there old. old)
 
 given-up-files : (under : Option ℕ) (id path : List ℕ) (found : Option Row) (s : State) → row_at path (files_of id s) ≡ found → row_at path (files_of id (with_effects s (gives_draft_up under))) ≡ found
 given-up-files None id path found s is = is
@@ -90,7 +90,7 @@ module _ (s : State) (plan : Plan) (blob : Blob) (now : ℕ) (there : list_any (
       cleared-files plan.proxy plan.proxy plan.path (Some new) (with_effect s (caches plan.proxy plan.path blob now))
       (ap (row_at plan.path) rows_then ∙ row-new new (files_of plan.proxy s) free)
   file-lands (Some row) found =
-      given-up-files plan.draft plan.proxy plan.path (Some row) (with_effect s (clears_mark plan.proxy plan.path))
+      given-up-files plan.draft plan.proxy plan.path (Some row) (with_effect s (clears_negative plan.proxy plan.path))
       (cleared-files plan.proxy plan.proxy plan.path (Some row) s found)
 
 -- what has landed had a draft

@@ -9,8 +9,8 @@ use Rattle.repo_model.specs.declared.update.Update.{Update}
 use Rattle.repo_model.specs.declared.update.Update.TheVariants as update
 use Rattle.repo_model.specs.declared.step.Step.{Step}
 use Rattle.repo_model.specs.declared.step.Step.TheVariants.{Serve, Missed, Blocked, Negative, Never, Fetch}
-use Rattle.repo_model.specs.Data.{Row, Kept, Mark, Proxy}
-use Rattle.repo_model.specs.State.{is_mark, row_at}
+use Rattle.repo_model.specs.Data.{Row, Kept, NegativeEntry, Proxy}
+use Rattle.repo_model.specs.State.{is_negative_of, row_at}
 use Rattle.repo_model.specs.Proxies.{kept_at}
 
 -- a file or a document
@@ -33,7 +33,7 @@ IsFresh update.Never checked now = ⊥
 
 -- the remote had nothing there, so few seconds ago that it counts
 abbrev pub IsMissing : Proxy → ℕ → List ℕ → Type 0
-IsMissing p now at = (m : Mark) × (find (is_mark at) p.marks ≡ Some m) × (now < m.moment + p.rule.negative_seconds)
+IsMissing p now at = (m : NegativeEntry) × (find (is_negative_of at) p.negatives ≡ Some m) × (now < m.moment + p.rule.negative_seconds)
 
 -- the remote is not asked: it was tried, it is never asked, or it had nothing
 abbrev pub IsUnasked : Proxy → ℕ → Bool → List ℕ → Type 0

@@ -25,7 +25,7 @@ ghost use Rattle.repo_laws.specs.Sound.{AreNamedApart, IsSound};
 ghost use Rattle.proxy_laws.specs.Asked.{AsksFirst, LetsThrough};
 ghost use Rattle.proxy_laws.specs.Limits.{KeepLimits, kept_first};
 
-/// A file that a proxy keeps stays there, with every field the same: behind each effect that may be done, and behind an entry and
+/// A file that a proxy keeps stays there, with every field the same: after each effect that may be done, and after an entry and
 /// a legal history from a sound state.
 pub fn kept_files_stay()
     ensures effect { (grace now : ℕ) (s : State) (e : Effect) (id path : List ℕ) (row : Row) → May grace now s e
@@ -38,14 +38,14 @@ pub fn kept_files_stay()
 {}
 
 /// A file that a proxy keeps, and that its patterns let through, is answered to each look there at the proxy, or at a group in which
-/// it comes first, and the text of its digest to a look at a side file of it; or memory is wanting, or no lease is left.
+/// it comes first, and the text of its digest to a look at a side file of it; or memory runs out, or no lease is left.
 pub fn kept_files_are_answered()
     ensures { (settings : Settings) (old : State) (e : Entry) (asked id path : List ℕ) (row : Row) (c : Coordinates) → IsSound settings old
         → Fits settings old e → LetsThrough settings id path → AsksFirst settings asked id → kind path ≡ Ok (File c)
         → row_at path (files_of id old) ≡ Some row → Answers asked path row.blob old e }
 {}
 
-/// What proxies keep, files, documents and marks, changes only by an entry that is answered that a fetch has landed: each other
+/// What proxies keep, files, documents and negative entries, changes only by an entry that is answered that a fetch has landed: each other
 /// one leaves all of it, and so does a legal history without one.
 pub fn proxies_change_by_landings()
     ensures entry { (settings : Settings) (old : State) (e : Entry) → Fits settings old e → e.reply ≢ landed
@@ -68,8 +68,8 @@ pub fn landed_files_are_not_fetched_again()
         → LandsFile id path blob one → other.reply ≡ fetches plan → plan.proxy ≡ id → plan.path ≡ path → ⊥ }
 {}
 
-/// Each proxy has its documents and its marks in byte order of path, each path once, and at most 10,000 marks: in the opening
-/// state, behind a start over tables in order, and after each effect, entry and history from a state in which they have them so.
+/// Each proxy has its documents and its negative entries in byte order of path, each path once, and at most 10,000 negative entries: in the opening
+/// state, after a start over tables in order, and after each effect, entry and history from a state in which they have them so.
 pub fn proxies_keep_their_limits()
     ensures opening { (settings : Settings) (clock : Option Moments) → KeepLimits (opening settings clock) }
     ensures started { (settings : Settings) (tells : ℕ → Option (List ℕ)) (stored : List ℕ) (clock : Option Moments) (faults : ℕ) (t : Tables)
@@ -79,7 +79,7 @@ pub fn proxies_keep_their_limits()
     ensures history { (settings : Settings) (start : State) (entries : List Entry) → KeepLimits start → KeepLimits (end settings start entries) }
 {}
 
-/// Two states that the same tables tell, as those before and behind a start, have the same files and documents, with the same
+/// Two states that the same tables tell, as those before and after a start, have the same files and documents, with the same
 /// moments, at each proxy that both have, but for the bytes that the store tells of its files.
 pub fn restarts_keep_what_proxies_keep()
     ensures files { (t : Tables) (old new : State) (id path : List ℕ) → Holds t old → Holds t new → IsTrue (list_any (is_proxy id) old.proxies)

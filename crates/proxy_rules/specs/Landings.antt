@@ -49,7 +49,7 @@ abbrev pub proxy_after_all : List Effect → Proxy → Proxy
 proxy_after_all [] p = p
 proxy_after_all (e ∷ effects) p = proxy_after_all effects (proxy_after e p)
 
--- The effects are recorded and done, and answered as theirs; or, where the records failed or memory was wanting, none of them is.
+-- The effects are recorded and done, and answered as theirs; or, where the records failed or memory ran out, none of them is.
 pub record Lands (effects : List Effect) (old new : Proxy) (told told_then : Option Tables) (faults faults_then : ℕ) (answer : Landed) : Type 0 where
   pub answered : (answer ≡ answer_of effects) ⊎ IsTrue (has_failed answer)
   pub asked : answer ≡ StoreFault → recorded effects ≢ []

@@ -9,7 +9,7 @@ ghost use Rattle.repo_model.specs.State.{row_at};
 ghost use Rattle.row_tables.specs.Commits.{tables_with};
 ghost use Rattle.row_tables.specs.Items.{IsChange};
 ghost use Rattle.row_tables.specs.Records.{HasCommitCause};
-ghost use Rattle.row_tables.specs.Stops.{HasCommitStop};
+ghost use Rattle.row_tables.specs.Crashes.{HasCommitCrash};
 ghost use Rattle.ordered_rows.specs.Recording.{FitWhereTold};
 ghost use Rattle.proxy_entries.specs.Stored.{shown_documents, shown_kept};
 
@@ -43,7 +43,7 @@ pub fn keep_file<H: Held, K: Records>(
         ≡ tables_with (CachedFile proxy.now path.now parcel.blob (recorded_print (shown_print parcel)) accepted ∷ []) (K.tables records.old)) }
     ensures untold { OnErr result (K.tables records.new ≡ K.tables records.old) }
     ensures cause { HasCommitCause (K.faults records.old) (K.faults records.new) result }
-    ensures stops { HasCommitStop (CachedFile proxy.now path.now parcel.blob (recorded_print (shown_print parcel)) accepted ∷ [])
+    ensures crashes { HasCommitCrash (CachedFile proxy.now path.now parcel.blob (recorded_print (shown_print parcel)) accepted ∷ [])
         (K.tables records.old) (K.unsettled records.old) (K.unsettled records.new) result }
     ensures ready { K.ready records.new }
 {
@@ -81,7 +81,7 @@ pub fn keep_document<K: Records>(
         ≡ tables_with (CachedDoc proxy.now path.now kept.checked kept.doc ∷ []) (K.tables records.old)) }
     ensures untold { OnErr result (K.tables records.new ≡ K.tables records.old) }
     ensures cause { HasCommitCause (K.faults records.old) (K.faults records.new) result }
-    ensures stops { HasCommitStop (CachedDoc proxy.now path.now kept.checked kept.doc ∷ []) (K.tables records.old) (K.unsettled records.old) (K.unsettled records.new) result }
+    ensures crashes { HasCommitCrash (CachedDoc proxy.now path.now kept.checked kept.doc ∷ []) (K.tables records.old) (K.unsettled records.old) (K.unsettled records.new) result }
     ensures ready { K.ready records.new }
 {
     let change = document_change(alloc, proxy, path, kept.checked, &kept.doc)?;

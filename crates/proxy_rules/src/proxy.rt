@@ -5,14 +5,14 @@ ghost use Rattle.mvn_coords.specs.Kind.{kind};
 ghost use Rattle.mvn_digest.specs.Digests.{digests_of};
 ghost use Rattle.mvn_metadata.specs.Written as written;
 ghost use Rattle.repo_model.specs.Command.{is_landing, longest_landed, names_document};
-ghost use Rattle.repo_model.specs.Effect.{clears_mark, keeps_doc, new_row, recorded, with_kept, with_mark, with_row};
+ghost use Rattle.repo_model.specs.Effect.{clears_negative, keeps_doc, new_row, recorded, with_kept, with_negative, with_row};
 ghost use Rattle.repo_model.specs.History.{latest_moment};
 ghost use Rattle.repo_model.specs.Proxies.{decided, kept_at, settled_at, step_out, subject_of};
 ghost use Rattle.repo_model.specs.Shown.{outcome_map, shown_got, shown_parcel};
 ghost use Rattle.repo_model.specs.State.{is_proxy, new_proxy, number_end, row_at};
 ghost use Rattle.repo_model.specs.Turn.{lands_file};
 ghost use Rattle.row_tables.specs.Items.{is_file_path, is_id, is_number};
-ghost use Rattle.row_tables.specs.Stops.{HasReplyStop};
+ghost use Rattle.row_tables.specs.Crashes.{HasReplyCrash};
 ghost use Rattle.ordered_rows.specs.Recording.{FitWhereTold};
 ghost use Rattle.proxy_rules.specs.Landings.{Lands, has_failed, landing, shown_landed};
 ghost use Rattle.proxy_rules.specs.Rules.{shown_rule};
@@ -29,15 +29,17 @@ use mvn_metadata::Doc;
 use ordered_rows::{CountedRows, Phase, Row, find, sizes};
 use outside::{Held, NoMemory, Parcel};
 use path_patterns::is_let_through;
-use proxy_entries::{Kept, document_step, find as kept_at, mark, put, step_out, unmark};
+use proxy_entries::{
+    Kept, add_negative, document_step, find as kept_at, put, remove_negative, step_out,
+};
 use repo_model::{Got, Step};
 use row_tables::Records;
 use std::alloc::Global;
 use std::collections::BTreeMap;
 use std::marker::Model;
 
-/// A proxy: its rule; the files that it keeps for good, each path once; the documents that it keeps; and its marks, the paths at
-/// which its remote had nothing, each with the moment at which it was asked. All are in byte order of path, and of marks there are
+/// A proxy: its rule; the files that it keeps for good, each path once; the documents that it keeps; and its negative entries, the paths at
+/// which its remote had nothing, each with the moment at which it was asked. All are in byte order of path, and of negative entries there are
 /// 10,000 at most.
 #[derive(Drop)]
 pub struct Proxy<H: Held> {
@@ -45,7 +47,7 @@ pub struct Proxy<H: Held> {
     rule: Rule,
     files: CountedRows<H>,
     documents: BTreeMap<String, Kept>,
-    marks: BTreeMap<String, u64>,
+    negatives: BTreeMap<String, u64>,
 }
 
 impl<H: Held> Model for Proxy<H> {
@@ -54,25 +56,25 @@ impl<H: Held> Model for Proxy<H> {
     ghost Value = { plain.Proxy };
 
     ghost use Rattle.std.specs.Prelude.{◌≤◌, IsTrue, length};
-    ghost use Rattle.repo_model.specs.Effect.{most_marks};
+    ghost use Rattle.repo_model.specs.Effect.{most_negatives};
     ghost use Rattle.row_tables.specs.Items.{is_id};
     ghost use Rattle.ordered_rows.specs.Rows.{AreFiles};
     ghost use Rattle.proxy_rules.specs.Rules.{shown_rule};
-    ghost use Rattle.proxy_entries.specs.Stored.{AreInTime, shown_documents, shown_marks};
+    ghost use Rattle.proxy_entries.specs.Stored.{AreInTime, shown_documents, shown_negatives};
 
     ghost view = { λ p. record {
       rule = shown_rule p.rule;
       files = p.files;
       documents = shown_documents p.documents.entries;
-      marks = shown_marks p.marks.entries;
+      negatives = shown_negatives p.negatives.entries;
     } };
 
     ghost invariant = { λ p. record {
       named : IsTrue (is_id p.rule.id);
       seconds : p.rule.negative_seconds ≤ 86400;
       files : AreFiles p.files;
-      few : length p.marks.entries ≤ most_marks;
-      timely : AreInTime (shown_marks p.marks.entries);
+      few : length p.negatives.entries ≤ most_negatives;
+      timely : AreInTime (shown_negatives p.negatives.entries);
     } };
 }
 
@@ -89,7 +91,7 @@ impl<H: Held> Proxy<H> {
             rule,
             files: CountedRows::new(alloc),
             documents: BTreeMap::new(alloc),
-            marks: BTreeMap::new(alloc),
+            negatives: BTreeMap::new(alloc),
         }
     }
 
@@ -138,7 +140,7 @@ impl<H: Held> Proxy<H> {
         step_out(
             self.rule.update,
             self.rule.negative_seconds,
-            &self.marks,
+            &self.negatives,
             path,
             now,
             tried,
@@ -184,7 +186,7 @@ impl<H: Held> Proxy<H> {
         (self.files.counts().0, self.documents.len() as u64)
     }
 
-    /// Takes up a file that is recorded: so a proxy starts. Nothing is recorded anew. Where memory is wanting the parcel comes
+    /// Takes up a file that is recorded: so a proxy starts. Nothing is recorded anew. When memory runs out the parcel comes
     /// back and nothing is changed.
     pub fn restore_file(
         &mut self,
@@ -208,7 +210,7 @@ impl<H: Held> Proxy<H> {
     }
 
     /// Takes up a document that is recorded, checked at a moment, in the place of the one at its path: so a proxy starts. Nothing
-    /// is recorded anew. Where memory is wanting nothing is changed.
+    /// is recorded anew. When memory runs out nothing is changed.
     pub fn restore_document(&mut self, path: &str, doc: Doc, checked: u64) -> Result<(), NoMemory>
         requires { checked ≤ latest_moment }
         ensures ok { OnOk result (self.new ≡ record self.old {
@@ -222,8 +224,8 @@ impl<H: Held> Proxy<H> {
 
     /// Lands what came of a fetch at a moment, in seconds since 1970 in UTC. A file is kept for good, unless one is there, and a
     /// document, settled for its directory, takes the place of the one that is there; both are recorded first. What the remote has
-    /// is no longer missing, and what it lacks is marked: of 10,000 marks the oldest goes. All else changes nothing. Where the
-    /// records fail or memory is wanting nothing is changed.
+    /// is no longer missing, and what it lacks gets a negative entry: of 10,000 negative entries the oldest goes. All else changes nothing. Where the
+    /// records fail or memory runs out nothing is changed.
     pub fn land<K: Records>(
         &mut self,
         records: &mut K,
@@ -238,7 +240,7 @@ impl<H: Held> Proxy<H> {
         requires draft { ForSome plan.now.draft (λ n. IsTrue (is_number n)) }
         requires fits { FitWhereTold (K.tables records.old) (recorded (landing self.old now plan.now outcome)) }
         ensures lands { Lands (landing self.old now plan.now outcome) self.old self.new (K.tables records.old) (K.tables records.new) (K.faults records.old) (K.faults records.new) result }
-        ensures stops { HasReplyStop (recorded (landing self.old now plan.now outcome)) (K.tables records.old) (K.unsettled records.old) (K.unsettled records.new) (shown_landed result) }
+        ensures crashes { HasReplyCrash (recorded (landing self.old now plan.now outcome)) (K.tables records.old) (K.unsettled records.old) (K.unsettled records.new) (shown_landed result) }
         ensures ready { K.ready records.new }
     {
         match outcome {
@@ -265,13 +267,13 @@ impl<H: Held> Proxy<H> {
         requires length { parcel.length < number_end }
         requires fits { FitWhereTold (K.tables records.old) (recorded (lands_file plan.now (shown_parcel parcel) now (row_at plan.now.path self.old.files))) }
         ensures lands { Lands (lands_file plan.now (shown_parcel parcel) now (row_at plan.now.path self.old.files)) self.old self.new (K.tables records.old) (K.tables records.new) (K.faults records.old) (K.faults records.new) result }
-        ensures stops { HasReplyStop (recorded (lands_file plan.now (shown_parcel parcel) now (row_at plan.now.path self.old.files)))
+        ensures crashes { HasReplyCrash (recorded (lands_file plan.now (shown_parcel parcel) now (row_at plan.now.path self.old.files)))
             (K.tables records.old) (K.unsettled records.old) (K.unsettled records.new) (shown_landed result) }
         ensures ready { K.ready records.new }
     {
         let path = plan.path.as_str();
         if find(self.files.map(), path).is_some() {
-            unmark(&mut self.marks, path);
+            remove_negative(&mut self.negatives, path);
             return Landed::NotKept;
         }
         // How long its digests are.
@@ -280,7 +282,7 @@ impl<H: Held> Proxy<H> {
         if let Err(fault) = keep_file(self.alloc, &mut self.files, records, id, path, parcel, now) {
             return Landed::failed(fault);
         }
-        unmark(&mut self.marks, path);
+        remove_negative(&mut self.negatives, path);
         Landed::Kept
     }
 
@@ -297,9 +299,9 @@ impl<H: Held> Proxy<H> {
         requires proxy { plan.now.proxy ≡ self.old.rule.id }
         requires path { IsTrue (names_document (kind plan.now.path)) }
         requires short { length (written.text doc) ≤ longest_landed }
-        ensures lands { Lands (keeps_doc plan.now.proxy plan.now.path (settled_at doc (kind plan.now.path)) now ∷ clears_mark plan.now.proxy plan.now.path ∷ [])
+        ensures lands { Lands (keeps_doc plan.now.proxy plan.now.path (settled_at doc (kind plan.now.path)) now ∷ clears_negative plan.now.proxy plan.now.path ∷ [])
             self.old self.new (K.tables records.old) (K.tables records.new) (K.faults records.old) (K.faults records.new) result }
-        ensures stops { HasReplyStop (recorded (keeps_doc plan.now.proxy plan.now.path (settled_at doc (kind plan.now.path)) now ∷ clears_mark plan.now.proxy plan.now.path ∷ []))
+        ensures crashes { HasReplyCrash (recorded (keeps_doc plan.now.proxy plan.now.path (settled_at doc (kind plan.now.path)) now ∷ clears_negative plan.now.proxy plan.now.path ∷ []))
             (K.tables records.old) (K.unsettled records.old) (K.unsettled records.new) (shown_landed result) }
         ensures ready { K.ready records.new }
     {
@@ -321,18 +323,18 @@ impl<H: Held> Proxy<H> {
         ) {
             return Landed::failed(fault);
         }
-        unmark(&mut self.marks, path);
+        remove_negative(&mut self.negatives, path);
         Landed::NotKept
     }
 
-    // Marks a path at which the remote has nothing.
+    // Adds a negative entry of a path at which the remote has nothing.
     fn land_gone(&mut self, path: &str, now: u64) -> Landed
         requires moment { now ≤ latest_moment }
         ensures answer { (result ≡ Landed.NotKept) ⊎ (result ≡ Landed.NoMemory) }
         ensures proxy { self.new ≡ (if has_failed result then self.old
-            else record self.old { marks = with_mark (record { path = path.now; moment = now }) self.old.marks }) }
+            else record self.old { negatives = with_negative (record { path = path.now; moment = now }) self.old.negatives }) }
     {
-        match mark(self.alloc, &mut self.marks, path, now) {
+        match add_negative(self.alloc, &mut self.negatives, path, now) {
             Ok(()) => Landed::NotKept,
             Err(_) => Landed::NoMemory,
         }

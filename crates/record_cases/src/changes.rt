@@ -129,7 +129,7 @@ fn misfit(
     }
 }
 
-/// The first item that does not fit tables of nothing behind those before it.
+/// The first item that does not fit tables of nothing after those before it.
 fn told_fit(alloc: Global, items: &[String]) -> Result<String, AllocError> {
     let mut tables: Tables = Tables::new(alloc);
     match misfit(alloc, &mut tables, 1, items)? {
@@ -147,7 +147,7 @@ fn completeness(rows: &BTreeMap<Place, FileRow>) -> &'static str {
     }
 }
 
-/// The same of a change of the second version behind one of the first, with the items behind `then` and before it, and whether the rows
+/// The same of a change of the second version after one of the first, with the items after `then` and before it, and whether the rows
 /// of repositories, and of proxies, then have their further digests.
 fn told_completed(alloc: Global, words: &[String]) -> Result<String, AllocError> {
     let mut tables: Tables = Tables::new(alloc);
@@ -163,7 +163,7 @@ fn told_completed(alloc: Global, words: &[String]) -> Result<String, AllocError>
     format!(in alloc; "hosted {hosted} cached {cached}")
 }
 
-/// Where a change of one item of a version is refused, which has this tag, these fields, and behind them so many blanks.
+/// Where a change of one item of a version is refused, which has this tag, these fields, and after them so many blanks.
 fn told_item(
     alloc: Global,
     version: u8,

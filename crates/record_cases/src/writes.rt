@@ -10,7 +10,7 @@ const PAYLOAD_LIMIT: usize = 1_000;
 
 const FILE_LIMIT: u64 = 1 << 40;
 
-// Writes a frame behind the place of its gate, syncs, opens the gate and syncs. Gives the place of the next gate.
+// Writes a frame after the place of its gate, syncs, opens the gate and syncs. Gives the place of the next gate.
 fn write_frame(file: &File, gate: u64, payload: &[u8], rt: &HostRuntime) -> io::Result<u64> {
     if payload.len() > PAYLOAD_LIMIT || gate > FILE_LIMIT {
         return Err(ErrorKind::FileTooLarge.into());

@@ -6,7 +6,7 @@ use Rattle.record_disk.specs.Disk.{Call, Write, Cut, Sync, Trace, After, content
 pub torn_same : (at n : ℕ) (file : List ℕ) → Torn at n file file
 torn_same at n file = record { before = refl; after = refl; no_shorter = omega arith; no_longer = omega arith }
 
--- a run and one behind it
+-- a run and one after it
 pub joined : (P : List ℕ → Type 0) (old mid new : Trace) → Throughout P old mid → Throughout P mid new → Throughout P old new
 joined P old mid new first (Here all) = first
 joined P old mid new first (Then call file last rest all) = Then call file last (joined P old mid last first rest) all

@@ -21,7 +21,7 @@ file_after (Write at size put) bytes file = disk.written file at bytes
 file_after (Cut size) bytes file = take size file
 file_after Sync bytes file = file
 
--- the trace goes on by these calls, the first of them first; their bytes stand one behind the other
+-- the trace goes on by these calls, the first of them first; their bytes stand one after the other
 abbrev pub told_by : disk.Trace → List DiskCall → List ℕ → disk.Trace
 told_by trace [] bytes = trace
 told_by trace (call ∷ calls) bytes =

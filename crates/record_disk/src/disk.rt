@@ -29,7 +29,7 @@ pub trait Disk {
         ensures told { OnOk result (IfSome (trace self.old) (λ s. buffer.new ≡ take (length buffer.old) (drop at (content s)))) }
         ensures same { trace self.new ≡ trace self.old };
 
-    /// Writes over what stands at the place `at`, and past the end. A write that would leave a gap behind the end, or
+    /// Writes over what stands at the place `at`, and past the end. A write that would leave a gap after the end, or
     /// pass 2^63 - 1 bytes, is `Failed`.
     fn write_at(&mut self, at: u64, bytes: &[u8]) -> Result<(), Failed>
         ensures cause { HasCause (faults self.old) (faults self.new) result }

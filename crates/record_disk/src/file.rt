@@ -68,7 +68,7 @@ fn size_of<F: OpenFile>(file: &F) -> io::Result<u64>
     Ok(size)
 }
 
-// A write that leaves no gap behind the end.
+// A write that leaves no gap after the end.
 fn write_whole<F: FileExt + OpenFile>(file: &F, at: u64, bytes: &[u8]) -> io::Result<()>
     ensures { OnOk result (at + length bytes.now < 2 ^ 63) }
 {

@@ -101,7 +101,7 @@ impl MemDisk {
         self.calls.as_slice()
     }
 
-    /// The bytes that the writes put into the file, one behind the other.
+    /// The bytes that the writes put into the file, one after the other.
     pub fn put(&self) -> &[u8] {
         self.put.as_slice()
     }

@@ -33,7 +33,7 @@ impl DiskScript {
         DiskScript::failing_at(Vec::new(alloc), 0)
     }
 
-    /// The calls with these numbers fail, in any order, a write among them behind its first `part` bytes.
+    /// The calls with these numbers fail, in any order, a write among them after its first `part` bytes.
     pub fn failing_at(failing: Vec<u64>, part: u64) -> DiskScript
         ensures { result ≡ script_of failing.items }
     {

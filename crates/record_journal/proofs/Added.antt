@@ -1,4 +1,4 @@
--- What is left after a change is added behind the others.
+-- What is left after a change is added after the others.
 use Rattle.std.proofs.Common.{◌≡◌, ◌⊎◌, ◌≤◌, inl, inr, ℕ, List, [], ◌∷◌, ◌++◌, Ok, refl, sym, ◌∙◌, ap, subst, arith}
 use Rattle.std.specs.Prelude.{Option, Some, None, IfSome, OnErr, Result, Err}
 use Rattle.std.specs.Option.{ForSome, option_map}
@@ -19,7 +19,7 @@ use Rattle.record_journal.proofs.Standing.{standing_tables, same_tables, standin
 abbrev pub FitsTold : Option Tables → List Item → Type 0
 FitsTold told items = ForSome told (λ t. applied t items ≡ Ok (with_items t items))
 
--- a frame of a change is added behind the others, or fails and stays pending
+-- a frame of a change is added after the others, or fails and stays pending
 module _ (items : List Item) (is : IsWritable items) where
   abbrev payload : List ℕ
   payload = change_bytes items
@@ -115,7 +115,7 @@ nothing_first None (Some t) g before after known told = told
 nothing_first (Some s) None g before after known told = told
 nothing_first (Some s) (Some t) g before after known told = λ u same. told.moments u same (images_first g before s known u same)
 
--- where a commit fails behind that
+-- where a commit fails after that
 pub nothing_then : {T E : Type 0} (r : Result T E) (old mid new : LogState) (bytes : List ℕ) → Told old.trace mid.trace (AddsNothing (tables_of old) old.pending)
     → OnErr r ((new.pending ≡ Some bytes) ⊎ (new ≡ mid)) → OnErr r ((new.pending ≡ Some bytes) ⊎ Told old.trace new.trace (AddsNothing (tables_of old) old.pending))
 nothing_then (Ok x) old mid new bytes first later = tt
@@ -158,12 +158,12 @@ module _ (items : List Item) (is : IsWritable items) (old new : LogState) (bytes
   more_so stays ps holds = subst (λ l. HasAcknowledged (ps ++ l ∷ []) new) same (stays ps (subst (λ o. IfSome old.trace (λ s. StandsFor old.gate o ps s)) (sym undone) holds))
 
   -- the gate does not fall
-  behind_so : old.gate ≤ new.gate → 8 ≤ new.gate
-  behind_so rises = omega (arith, ready.behind)
+  after_so : old.gate ≤ new.gate → 8 ≤ new.gate
+  after_so rises = omega (arith, ready.behind)
 
   pub append_ready : old.gate ≤ new.gate → new.pending ≡ None → ((ps : List (List ℕ)) → HasAcknowledged ps old → HasAcknowledged (ps ++ bytes ∷ []) new) → IsReady new
   append_ready rises none stays = record {
-    behind = behind_so rises;
+    behind = after_so rises;
     standing = added_ready items is old.trace new.trace old.gate new.gate new.pending none told_so ready_so fits_so (more_so stays);
   }
 
@@ -175,14 +175,14 @@ module _ (items : List Item) (is : IsWritable items) (old new : LogState) (bytes
 
   pub append_failed_ready : old.gate ≤ new.gate → new.pending ≡ Some bytes → ((ps : List (List ℕ)) → HasAcknowledged ps old → HasAcknowledged ps new) → IsReady new
   append_failed_ready rises some stays = record {
-    behind = behind_so rises;
+    behind = after_so rises;
     standing = failed_ready items is old.trace new.trace old.gate new.gate new.pending (some ∙ ap Some same) told_so ready_so fits_so (still_so stays);
   }
 
   pub append_failed_tables : new.pending ≡ Some bytes → ((ps : List (List ℕ)) → HasAcknowledged ps old → HasAcknowledged ps new) → tables_of new ≡ tables_of old
   append_failed_tables some stays = failed_tables items is old.trace new.trace old.gate new.gate new.pending (some ∙ ap Some same) told_so ready_so fits_so (still_so stays) ∙ tables_so
 
--- where memory was wanting
+-- when memory ran out
 pub none_crash : (old new : LogState) (items : List Item) → new ≡ old → old.pending ≡ None → IsReady old → Told old.trace new.trace (Adds (tables_of old) items)
 none_crash old new items same undone ready =
     subst (λ (v : LogState). Told old.trace v.trace (Adds (tables_of old) items)) (sym same)

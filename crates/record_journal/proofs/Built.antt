@@ -15,7 +15,7 @@ after_items p t u (item ∷ items) is = by (after_items (p + 1) (item_on t item)
     by go true h = go h
     by go false h = absurd cc
 
--- a change that fits is recorded behind what built them up
+-- a change that fits is recorded after what built them up
 pub built_more : (t u : Tables) (items : List Item) → IsChange items → applied t items ≡ Ok u → IsBuiltUp t → IsBuiltUp u
 built_more t u items change fits built =
     let after : u ≡ with_items t items = after_items 0 t u items fits in

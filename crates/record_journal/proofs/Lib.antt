@@ -5,4 +5,4 @@ pub mod Undone
 pub mod Added
 pub mod Reloaded
 pub mod Built
-pub mod Stops
+pub mod Crashes

@@ -15,7 +15,7 @@ use Rattle.row_tables.specs.declared.faults.LoadFault.{LoadFault}
 use Rattle.record_journal.specs.Given.{Loads}
 use Rattle.row_tables.specs.Loading.{of_size, change_in, by_bytes, with_change, after_frame, next_frame, after_frames, loading_of, loading, built_up}
 
--- frames with a cut one behind them build up nothing
+-- frames with a cut one after them build up nothing
 cut_is_refused : (frame : ℕ) (t u : Tables) (payloads : List (List ℕ)) → after_frames frame true t payloads ≡ Ok u → ⊥
 cut_is_refused frame t u [] is = absurd cc
 cut_is_refused frame t u (p ∷ payloads) is = by (λ v. cut_is_refused (frame + 1) v u payloads) (after_frame t p) is

@@ -36,7 +36,7 @@ sync_kept g s u (inr synced) = subst (KeepsTables (tables_by (Some s) g None) No
   images = λ t is all. λ image from. subst (LoadsTo t) (sym from) (ok_of (loading (content s)) t is);
 })
 
--- two runs, one behind the other, of which the first leaves nothing pending
+-- two runs, one after the other, of which the first leaves nothing pending
 pub kept_then : (a b c : Option Trace) (told mid : Option Tables) (before : Option (List ℕ)) → mid ≡ told → Told a b (KeepsTables told before None) → Told b c (KeepsTables mid None None) → Told a c (KeepsTables told before None)
 kept_then a b c told mid before same first second = told_then a b c (KeepsTables told before None) (KeepsTables mid None None) (KeepsTables told before None) go first second
   where

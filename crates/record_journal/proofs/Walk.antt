@@ -43,8 +43,8 @@ module _ (all : Result Tables LoadFault) (frame : ℕ) (t : Tables) (left : Foun
   pub goes_on : (payload : List ℕ) (rest : Found) (u : Tables) → left ≡ in_front payload rest → after_frame t payload ≡ Ok u → after_frames (frame + 1) rest.is_cut u rest.payloads ≡ all
   goes_on payload rest u is next = ap (next_frame frame (λ v. after_frames (frame + 1) rest.is_cut v rest.payloads)) (sym next) ∙ front payload rest is
 
-  pub stops : (payload : List ℕ) (rest : Found) (at : ℕ) → left ≡ in_front payload rest → after_frame t payload ≡ Err at → all ≡ Err (Row frame at)
-  stops payload rest at is next = sym (front payload rest is) ∙ ap (next_frame frame (λ v. after_frames (frame + 1) rest.is_cut v rest.payloads)) next
+  pub crashes : (payload : List ℕ) (rest : Found) (at : ℕ) → left ≡ in_front payload rest → after_frame t payload ≡ Err at → all ≡ Err (Row frame at)
+  crashes payload rest at is next = sym (front payload rest is) ∙ ap (next_frame frame (λ v. after_frames (frame + 1) rest.is_cut v rest.payloads)) next
 
   pub ends : left ≡ nothing → all ≡ Ok t
   ends is = sym so_far ∙ (λ i. after_frames frame (is i).is_cut t (is i).payloads)

@@ -1,4 +1,4 @@
--- What a function that loads gives: what loading by the definition gives, unless memory is wanting.
+-- What a function that loads gives: what loading by the definition gives, unless memory runs out.
 use Rattle.std.specs.Prelude.{◌≡◌, ℕ, List, Result, Ok, Err}
 use Rattle.repo_model.specs.Tables.{Tables}
 use Rattle.row_tables.specs.Loading.{after_frame}
@@ -13,7 +13,7 @@ AppliesFrame old payload new (Ok done) = after_frame old payload ≡ Ok new
 AppliesFrame old payload new (Err frame.NoMemory) = Unit {0}
 AppliesFrame old payload new (Err (frame.At at)) = after_frame old payload ≡ Err at
 
--- the tables or the refusal that is expected, unless memory is wanting
+-- the tables or the refusal that is expected, unless memory runs out
 abbrev pub Loads : Result Tables LoadFault → Result Tables LoadFault → Type 0
 Loads expected (Ok t) = expected ≡ Ok t
 Loads expected (Err Failed) = ⊥

@@ -9,7 +9,7 @@ use Rattle.repo_model.specs.declared.item.Item.{Item}
 use Rattle.repo_model.specs.Tables.{Tables, applied}
 use Rattle.row_tables.specs.Applying.{with_items}
 use Rattle.row_tables.specs.Records.{Expected}
-use Rattle.row_tables.specs.Stops.{Rests, Unsettled}
+use Rattle.row_tables.specs.Crashes.{Rests, Unsettled}
 use Rattle.row_tables.specs.Loading.{change_in, loading, built_up}
 
 -- the part of a file that its journal has acknowledged: what stands in front of a frame that failed
@@ -17,7 +17,7 @@ abbrev pub acknowledged : ℕ → Option (List ℕ) → List ℕ → List ℕ
 acknowledged gate None file = file
 acknowledged gate (Some payload) file = take gate file
 
--- what a load of a journal gives that neither fails nor wants memory, where its disk tells
+-- what a load of a journal gives that neither fails nor runs out of memory, where its disk tells
 abbrev pub expected_by : Option Trace → ℕ → Option (List ℕ) → Option Expected
 expected_by trace gate pending = option_map (λ t. loading (acknowledged gate pending (content t))) trace
 
@@ -35,7 +35,7 @@ tables_of log = tables_by log.trace log.gate log.pending
 abbrev pub items_of : Option (List ℕ) → Option (List Item)
 items_of pending = option_and_then (λ payload. result_ok (change_in payload)) pending
 
--- what a stop may leave of a journal beside its tables
+-- what a crash may leave of a journal beside its tables
 abbrev pub unsettled_of : LogState → Unsettled
 unsettled_of log = record { pending = items_of log.pending; trace = log.trace }
 
@@ -56,7 +56,7 @@ abbrev pub Fits : Tables → Option (List ℕ) → Type 0
 Fits t None = Unit {0}
 Fits t (Some payload) = (items : List Item) × (change_in payload ≡ Ok items) × (applied t items ≡ Ok (with_items t items))
 
--- the frames of the acknowledged changes stand in the file, and behind them nothing, or what is left of one that failed
+-- the frames of the acknowledged changes stand in the file, and after them nothing, or what is left of one that failed
 pub record IsStanding (gate : ℕ) (pending : Option (List ℕ)) (trace : Trace) : Type 0 where
   pub payloads : List (List ℕ)
   pub stands : StandsFor gate pending payloads trace
@@ -64,13 +64,13 @@ pub record IsStanding (gate : ℕ) (pending : Option (List ℕ)) (trace : Trace)
   pub builds : built_up payloads ≡ Ok tables
   pub fits : Fits tables pending
 
--- The last load has given the tables: its gate stands behind the magic, which that of a new journal does not, and where its
+-- The last load has given the tables: its gate stands after the magic, which that of a new journal does not, and where its
 -- disk tells, the frames of the tables stand in the file.
 pub record IsReady (log : LogState) : Type 0 where
   pub behind : 8 ≤ log.gate
   pub standing : IfSome log.trace (IsStanding log.gate log.pending)
 
--- It is ready, and a stop now leaves the tables, or these with the change that is pending.
+-- It is ready, and a crash now leaves the tables, or these with the change that is pending.
 pub record MayCommit (log : LogState) : Type 0 where
   pub ready : IsReady log
   pub rests : Rests (tables_of log) (unsettled_of log)

@@ -30,7 +30,7 @@ fn payload_of(alloc: Global, change: &Change) -> Result<Vec<u8>, AllocError>
     Ok(payload)
 }
 
-// Adds a change behind the others.
+// Adds a change after the others.
 fn append_change<D: Disk>(
     alloc: Global,
     log: &mut Log<D>,

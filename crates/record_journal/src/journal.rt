@@ -8,7 +8,7 @@ ghost use Rattle.row_tables.specs.Items.{are_of, change_bytes};
 ghost use Rattle.row_tables.specs.declared.version.Version.TheVariants.{Second};
 ghost use Rattle.row_tables.specs.Recorded.{IsBuiltUp};
 ghost use Rattle.row_tables.specs.Records.{HasLoadCause, HasCommitCause, IsRefusal, LoadsUnlessFailed};
-ghost use Rattle.row_tables.specs.Stops.{HasCommitStop};
+ghost use Rattle.row_tables.specs.Crashes.{HasCommitCrash};
 ghost use Rattle.row_tables.specs.declared.faults.CommitFault.TheVariants.{Failed as failed};
 ghost use Rattle.record_journal.specs.Journal.{expected_of, tables_of, unsettled_of, KeepsTables, MayCommit, Recovers, AddsNothing, Commits, IsStill};
 
@@ -107,7 +107,7 @@ impl<D: Disk> Records for Journal<D> {
         ensures err { OnErr result (tables_of self.new ≡ tables_of self.old) }
         ensures undone { OnOk result (self.new.pending ≡ None) }
         ensures settled { OnOk result ((unsettled_of self.new).pending ≡ None) }
-        ensures stops { HasCommitStop change.now (tables_of self.old) (unsettled_of self.old) (unsettled_of self.new) result }
+        ensures crashes { HasCommitCrash change.now (tables_of self.old) (unsettled_of self.old) (unsettled_of self.new) result }
         ensures ready { MayCommit self.new }
 
         // A crash at a moment of the call leaves a file that loads to the tables from before it, or to these with the change that

@@ -13,7 +13,7 @@ pub fn laws_of_journals()
     ensures images { (journal : LogState) (t : Tables) → IsReady journal → tables_of journal ≡ Some t
         → IfSome journal.trace (AllImages (MayLoad t journal.pending)) }
 
-    // What stands behind a gate that is not 1 is not read, so where a gate was damaged the records end: a file loads to what the frames
+    // What stands after a gate that is not 1 is not read, so where a gate was damaged the records end: a file loads to what the frames
     // in front of it build up, whatever stands from there on.
     ensures unread { (payloads : List (List ℕ)) (rest : List ℕ) → AreShort payloads → IsClosed rest
         → loading (head_of payloads ++ rest) ≡ built_up payloads }

@@ -35,7 +35,7 @@ renew_longer s t tears n long = weaker _ (IsLong n) s t (λ c from. torn_long c 
     torn_long : (c from : List ℕ) → IsLong n from → Torn 0 9 from c → IsLong n c
     torn_long c from is torn = omega (arith, torn.no_shorter, is)
 
--- the frames of payloads stand behind the magic
+-- the frames of payloads stand after the magic
 head_long : (ps : List (List ℕ)) → IsLong 8 (head_of ps)
 head_long ps = omega (arith, length-append magic (flat_map framed ps))
 
@@ -122,11 +122,11 @@ fresh_longer bytes s t renewed durable = renewed (min 8 (length bytes)) (λ c im
 pub up_to_magic : (bytes : List ℕ) (s t : Trace) → (IsDurable bytes s → Throughout (IsLong 8) s t) → IsDurable bytes s → Throughout (IsLong (min 8 (length bytes))) s t
 up_to_magic bytes s t closed durable = weaker (IsLong 8) (IsLong (min 8 (length bytes))) s t (λ c long. omega (arith, long)) (closed durable)
 
--- the gate stands behind the magic
-pub behind_magic : (read : Frames) → 8 ≤ end_of read
-behind_magic New = omega arith
-behind_magic Foreign = omega arith
-behind_magic (Framed found) = by found.is_cut found.size
+-- the gate stands after the magic
+pub after_magic : (read : Frames) → 8 ≤ end_of read
+after_magic New = omega arith
+after_magic Foreign = omega arith
+after_magic (Framed found) = by found.is_cut found.size
   where
     by : (cut : Bool) (n : ℕ) → 8 ≤ unwrap_or (if cut then None else Some (8 + n)) 8
     by true n = omega arith

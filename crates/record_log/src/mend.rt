@@ -57,7 +57,7 @@ fn ends_at(bytes: &[u8], gate: u64) -> bool
     end > 0 && end as u64 - 1 == gate && bytes[end - 1] == 0
 }
 
-/// Closes the gate of a file with these bytes, all of them on the disk, where it isn't closed or something stands behind it.
+/// Closes the gate of a file with these bytes, all of them on the disk, where it isn't closed or something stands after it.
 fn close<D: Disk>(disk: &mut D, bytes: &[u8], gate: u64) -> Result<(), Failed>
     requires { gate_of (frames bytes.now) ≡ Some gate }
     ensures cause { HasCause (D.faults disk.old) (D.faults disk.new) result }

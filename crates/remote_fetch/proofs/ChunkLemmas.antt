@@ -39,8 +39,8 @@ module _ (limit at : ℕ) (before bytes : List ℕ) (given : ℕ × ℕ) (is : I
     pub within : at ≤ length bytes → at + (given.0 + given.1 + 2) ≤ length bytes
     within inside = omega (arith, inside, lengths, has.1, length-drop given.0 (drop at bytes), length-drop at bytes)
 
-    behind-it : drop (given.1 + 2) rest ≡ drop (at + (given.0 + given.1 + 2)) bytes
-    behind-it =
+    after-it : drop (given.1 + 2) rest ≡ drop (at + (given.0 + given.1 + 2)) bytes
+    after-it =
         let sum : at + given.0 + (given.1 + 2) ≡ at + (given.0 + given.1 + 2) = omega arith in
         ap (λ (b : List ℕ). drop (given.1 + 2) b) (drop-more at given.0 bytes) ∙ drop-more (at + given.0) (given.1 + 2) bytes ∙ ap (λ (k : ℕ). drop k bytes) sum
 
@@ -49,7 +49,7 @@ module _ (limit at : ℕ) (before bytes : List ℕ) (given : ℕ × ℕ) (is : I
     one-step items result items_are fits some so =
         let place : at + (given.0 + given.1 + 2) ≡ at + length (print_chunk_line is.0) + chunk_size is.0 + 2 = omega (arith, is.2, is.3) in
         let so_more : IsChunked limit (at + (given.0 + given.1 + 2)) items (drop (given.1 + 2) rest) result
-        = subst (λ (b : List ℕ). IsChunked limit (at + (given.0 + given.1 + 2)) items b result) (sym behind-it) so in
+        = subst (λ (b : List ℕ). IsChunked limit (at + (given.0 + given.1 + 2)) items b result) (sym after-it) so in
         let so_items : IsChunked limit (at + (given.0 + given.1 + 2)) (before ++ chunk.now) (drop (given.1 + 2) rest) result
         = subst (λ (b : List ℕ). IsChunked limit (at + (given.0 + given.1 + 2)) b (drop (given.1 + 2) rest) result) items_are so_more in
         one_more is.0 chunk.now (drop (given.1 + 2) rest) (is.1.0, is.1.1 ∙ ap (λ (b : List ℕ). print_chunk_line is.0 ++ b) has.0) (has.1 ∙ is.3) (omega (arith, fits, is.3)) (omega (arith, some, is.3))

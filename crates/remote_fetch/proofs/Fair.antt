@@ -9,7 +9,7 @@ use Rattle.http_wire.specs.declared.requests.BodyLength.TheVariants.{Known, Miss
 use Rattle.remote_fetch.specs.Heads.{Front}
 use Rattle.remote_fetch.specs.declared.replies.Reply.{Reply}
 use Rattle.remote_fetch.specs.declared.replies.Reply.TheVariants.{Body, Gone, Refused, TooLarge, Bad, Fault}
-use Rattle.remote_fetch.specs.Replies.{IsAnswer, IsBehind, broken, other_status, long_answer, read_body, IsBody, IsChunked, no_line, ended, too_long, cut_short, one_more, framed, cut_body, is_gone_status, without_body}
+use Rattle.remote_fetch.specs.Replies.{IsAnswer, IsAfter, broken, other_status, long_answer, read_body, IsBody, IsChunked, no_line, ended, too_long, cut_short, one_more, framed, cut_body, is_gone_status, without_body}
 
 abbrev pub IsFair : ℕ → Reply → Type 0
 IsFair limit (Body bytes) = length bytes ≤ limit
@@ -55,11 +55,11 @@ body-fair : (limit : ℕ) (front : Front) (bytes : List ℕ) (reply : Reply) →
 body-fair limit front bytes reply (inl (is, chunks)) = chunks-fair limit front.ends [] bytes reply (omega arith) chunks
 body-fair limit front bytes reply (inr (is, so)) = subst (λ r. IsFair limit r) (sym so) (framed-fair limit front.ends _ bytes)
 
-behind-fair : (limit total : ℕ) (front : Result Front ℕ) (bytes : List ℕ) (reply : Reply) → IsBehind limit total front bytes reply → IsFair limit reply
-behind-fair limit total front bytes reply broken = tt
-behind-fair limit total (Ok front) bytes reply (other_status is) = status-fair limit front.status
-behind-fair limit total front bytes reply (long_answer is long) = tt
-behind-fair limit total (Ok front) bytes reply (read_body is fits body) = body-fair limit front bytes reply body
+after-fair : (limit total : ℕ) (front : Result Front ℕ) (bytes : List ℕ) (reply : Reply) → IsAfter limit total front bytes reply → IsFair limit reply
+after-fair limit total front bytes reply broken = tt
+after-fair limit total (Ok front) bytes reply (other_status is) = status-fair limit front.status
+after-fair limit total front bytes reply (long_answer is long) = tt
+after-fair limit total (Ok front) bytes reply (read_body is fits body) = body-fair limit front bytes reply body
 
 pub answer-fair : (limit : ℕ) (bytes : List ℕ) (reply : Reply) → IsAnswer limit bytes reply → IsFair limit reply
-answer-fair limit bytes reply (front, behind, is, so) = behind-fair limit (length bytes) front behind reply so
+answer-fair limit bytes reply (front, behind, is, so) = after-fair limit (length bytes) front behind reply so

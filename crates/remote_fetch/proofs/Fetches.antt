@@ -17,7 +17,7 @@ use Rattle.remote_fetch.specs.declared.fetching.Checked.{Checked}
 use Rattle.remote_fetch.specs.declared.contents.Content.{Content}
 use Rattle.remote_fetch.specs.Exchanged.{IsAsked, IsReply, asked_for}
 use Rattle.remote_fetch.specs.Fetching.{IsByMd5, AfterSha1, AfterBody, IsChecked, IsFetched, body_in, said_of, longest_side, with_content}
-use Rattle.remote_fetch.proofs.Reaching.{behind-twice, behind-none}
+use Rattle.remote_fetch.proofs.Reaching.{after-twice, after-none}
 use Rattle.remote_fetch.proofs.Unique.{answer-unique}
 
 -- ---- one exchange
@@ -40,7 +40,7 @@ abbrev Made : Sees → Sees → (List Exchange → Type 0) → Type 0
 Made old new P = (xs : List Exchange) × (new.made ≡ behind old.made xs) × P xs
 
 ends : {P : List Exchange → Type 0} (old new : Sees) → new ≡ old → P [] → Made old new P
-ends old new same is = ([], ap (λ (s : Sees). s.made) same ∙ behind-none old.made, is)
+ends old new same is = ([], ap (λ (s : Sees). s.made) same ∙ after-none old.made, is)
 
 -- an exchange, and what comes of its reply
 abbrev Step : Plan → List ℕ → ℕ → (Reply → Outcome Checked → List Exchange → Type 0) → Outcome Checked → List Exchange → Type 0
@@ -53,7 +53,7 @@ step-made : (plan : Plan) (suffix : List ℕ) (limit : ℕ) (After : Reply → O
 step-made plan suffix limit After reply o old mid new asked (rest, made, after) =
     let (gave, reads, adds) = asked-adds plan suffix limit reply old mid asked in (
       made_of plan suffix limit gave ∷ rest,
-      made ∙ ap (λ m. behind m rest) adds ∙ behind-twice old.made (made_of plan suffix limit gave ∷ []) rest,
+      made ∙ ap (λ m. behind m rest) adds ∙ after-twice old.made (made_of plan suffix limit gave ∷ []) rest,
       (gave, rest, refl, reply, reads, after),
     )
 
@@ -170,14 +170,14 @@ fetch-short plan o old new (checked, is, so) =
 some-inj : {X : Type 0} (a b : X) → Some a ≡ Some b → a ≡ b
 some-inj a b is = cc
 
-same-behind : {X : Type 0} (es xs ys : List X) → (es ++ xs) ≡ (es ++ ys) → xs ≡ ys
-same-behind [] xs ys is = is
-same-behind (e ∷ es) xs ys is = same-behind es xs ys cc
+same-after : {X : Type 0} (es xs ys : List X) → (es ++ xs) ≡ (es ++ ys) → xs ≡ ys
+same-after [] xs ys is = is
+same-after (e ∷ es) xs ys is = same-after es xs ys cc
 
--- what was made behind what was told
+-- what was made after what was told
 made-is : (before made xs : List Exchange) (old new : Sees) → old.made ≡ Some before → new.made ≡ Some (before ++ made) → new.made ≡ behind old.made xs → xs ≡ made
 made-is before made xs old new told grown is =
-    same-behind before xs made (some-inj (before ++ xs) (before ++ made) (sym (ap (λ m. behind m xs) told) ∙ sym is ∙ grown))
+    same-after before xs made (some-inj (before ++ xs) (before ++ made) (sym (ap (λ m. behind m xs) told) ∙ sym is ∙ grown))
 
 pub fetch-unique : (plan : Plan) (one other : Outcome Content) (old new old' new' : Sees) (before before' made : List Exchange)
     → IsFetched plan one old new → IsFetched plan other old' new' → old.made ≡ Some before → new.made ≡ Some (before ++ made)

@@ -28,13 +28,13 @@ append-nil : {X : Type 0} (xs : List X) → xs ++ [] ≡ xs
 append-nil [] = refl
 append-nil (x ∷ xs) = ap (λ l. x ∷ l) (append-nil xs)
 
-pub behind-twice : {X : Type 0} (told : Option (List X)) (xs ys : List X) → behind (behind told xs) ys ≡ behind told (xs ++ ys)
-behind-twice None xs ys = refl
-behind-twice (Some es) xs ys = ap (λ l. Some l) (append-assoc es xs ys)
+pub after-twice : {X : Type 0} (told : Option (List X)) (xs ys : List X) → behind (behind told xs) ys ≡ behind told (xs ++ ys)
+after-twice None xs ys = refl
+after-twice (Some es) xs ys = ap (λ l. Some l) (append-assoc es xs ys)
 
-pub behind-none : {X : Type 0} (told : Option (List X)) → told ≡ behind told []
-behind-none None = refl
-behind-none (Some es) = ap (λ l. Some l) (sym (append-nil es))
+pub after-none : {X : Type 0} (told : Option (List X)) → told ≡ behind told []
+after-none None = refl
+after-none (Some es) = ap (λ l. Some l) (sym (append-nil es))
 
 in_front-twice : {X : Type 0} (xs ys : List X) (told : Option (List X)) → in_front xs (in_front ys told) ≡ in_front (xs ++ ys) told
 in_front-twice xs ys None = refl
@@ -53,7 +53,7 @@ HasNotFailed (Err Failed) = ⊥
 
 pub reaches-none : (most : ℕ) (s : Sees) → Reaches most s s
 reaches-none most s =
-    record { faults = refl; made = ([], omega arith, behind-none s.made); left = ([], omega arith, in_front-none s.left) }
+    record { faults = refl; made = ([], omega arith, after-none s.made); left = ([], omega arith, in_front-none s.left) }
 
 pub exchange-reaches : (asked : Asked) (gave : Result (List ℕ) RemoteFault) (old new : Sees) → IsExchange asked gave old new → HasNotFailed gave → Reaches 1 old new
 exchange-reaches asked (Ok bytes) old new is so =
@@ -64,7 +64,7 @@ exchange-reaches asked (Err NoMemory) old new is so =
   where
     made : (new.made ≡ old.made) ⊎ (new.made ≡ behind old.made (exchanged asked (Err NoMemory) ∷ []))
         → (exchanges : List Exchange) × (length exchanges ≤ 1) × (new.made ≡ behind old.made exchanges)
-    made (inl same) = ([], omega arith, same ∙ behind-none old.made)
+    made (inl same) = ([], omega arith, same ∙ after-none old.made)
     made (inr added) = (exchanged asked (Err NoMemory) ∷ [], omega arith, added)
 exchange-reaches asked (Err Failed) old new is so = absurd so
 
@@ -76,7 +76,7 @@ reaches-then n m most old mid new first more fits =
     let (given', some', left') = more.left in
     record {
       faults = more.faults ∙ first.faults;
-      made = (xs ++ ys, omega (arith, few, few', fits, length-append xs ys), made' ∙ ap (λ m. behind m ys) made ∙ behind-twice old.made xs ys);
+      made = (xs ++ ys, omega (arith, few, few', fits, length-append xs ys), made' ∙ ap (λ m. behind m ys) made ∙ after-twice old.made xs ys);
       left = (given ++ given', omega (arith, some, some', fits, length-append given given'), left ∙ ap (λ l. in_front given l) left' ∙ in_front-twice given given' new.left);
     }
 
@@ -91,9 +91,9 @@ asked-reaches plan suffix limit reply old new (Err Failed, is, reads) there = ab
 asked-reaches plan suffix limit reply old new (Err NoMemory, is, reads) there = absurd reads
 
 -- an exchange that did not fail, and then more
-pub reaches-behind : (plan : Plan) (suffix : List ℕ) (limit : ℕ) (reply : Reply) (more : ℕ) (old mid new : Sees) → IsAsked plan suffix limit reply old mid → IsThere reply → Reaches more mid new
+pub reaches-after : (plan : Plan) (suffix : List ℕ) (limit : ℕ) (reply : Reply) (more : ℕ) (old mid new : Sees) → IsAsked plan suffix limit reply old mid → IsThere reply → Reaches more mid new
     → Reaches (1 + more) old new
-reaches-behind plan suffix limit reply more old mid new asked there rest =
+reaches-after plan suffix limit reply more old mid new asked there rest =
     reaches-then 1 more (1 + more) old mid new (asked-reaches plan suffix limit reply old mid asked there) rest (omega arith)
 
 -- a body is no fault
@@ -123,7 +123,7 @@ said-reaches : (plan : Plan) (bytes : List ℕ) (s : Side) (reply : Reply) (o : 
     → IsAsked plan (suffix_of s) longest_side reply old mid → (o ≡ said_of bytes s reply) × (new ≡ mid) → HasGot o → Reaches (1 + more) old new
 said-reaches plan bytes s reply o more old mid new asked (is, same) got =
     subst (λ n. Reaches (1 + more) old n) (sym same)
-    (reaches-behind plan (suffix_of s) longest_side reply more old mid mid asked (said-there bytes s reply o is got) (reaches-none more mid))
+    (reaches-after plan (suffix_of s) longest_side reply more old mid mid asked (said-there bytes s reply o is got) (reaches-none more mid))
 
 md5-reaches : (plan : Plan) (bytes : List ℕ) (o : Outcome Checked) (old new : Sees) → IsByMd5 plan bytes o old new → HasGot o → Reaches 1 old new
 md5-reaches plan bytes o old new (reply, asked, is) got = said-reaches plan bytes side.Md5 reply o 0 old new new asked (is, refl) got
@@ -132,7 +132,7 @@ after-sha-reaches : (plan : Plan) (bytes : List ℕ) (reply : Reply) (o : Outcom
     → AfterSha1 plan bytes reply o mid new → HasGot o → Reaches 2 old new
 after-sha-reaches plan bytes (Body said) o old mid new asked after got = said-reaches plan bytes side.Sha1 (Body said) o 1 old mid new asked after got
 after-sha-reaches plan bytes Gone o old mid new asked after got =
-    reaches-behind plan (suffix_of side.Sha1) longest_side Gone 1 old mid new asked tt (md5-reaches plan bytes o mid new after got)
+    reaches-after plan (suffix_of side.Sha1) longest_side Gone 1 old mid new asked tt (md5-reaches plan bytes o mid new after got)
 after-sha-reaches plan bytes (Refused status) o old mid new asked after got = said-reaches plan bytes side.Sha1 (Refused status) o 1 old mid new asked after got
 after-sha-reaches plan bytes TooLarge o old mid new asked after got = said-reaches plan bytes side.Sha1 TooLarge o 1 old mid new asked after got
 after-sha-reaches plan bytes (Bad at) o old mid new asked after got = said-reaches plan bytes side.Sha1 (Bad at) o 1 old mid new asked after got
@@ -147,7 +147,7 @@ ended-got ended o mid new (is, same) got = subst HasGot is got
 
 pub checked-reaches : (plan : Plan) (o : Outcome Checked) (old new : Sees) → IsChecked plan o old new → HasGot o → Reaches 3 old new
 checked-reaches plan o old new (Body bytes, mid, asked, after) got =
-    reaches-behind plan [] plan.limit (Body bytes) 2 old mid new asked tt (sided-reaches plan bytes o mid new after got)
+    reaches-after plan [] plan.limit (Body bytes) 2 old mid new asked tt (sided-reaches plan bytes o mid new after got)
 checked-reaches plan o old new (Gone, mid, asked, after) got = absurd (ended-got came.Gone o mid new after got)
 checked-reaches plan o old new (Refused status, mid, asked, after) got = absurd (ended-got (came.Refused status) o mid new after got)
 checked-reaches plan o old new (TooLarge, mid, asked, after) got = absurd (ended-got came.TooLarge o mid new after got)

@@ -8,7 +8,7 @@ use Rattle.httparse.proofs.ChunkLemmas.{chunk_line_unique}
 use Rattle.httparse.proofs.GrammarLemmas.{response_unique}
 use Rattle.remote_fetch.specs.declared.replies.Reply.{Reply}
 use Rattle.remote_fetch.specs.Heads.{Front, HasNoHead, HasHead, IsFront, no_head, passed_over, last_head, final_head, front_of, is_informational, most_passed_over}
-use Rattle.remote_fetch.specs.Replies.{IsChunked, no_line, ended, too_long, cut_short, one_more, IsBody, IsBehind, broken, other_status, long_answer, read_body, IsAnswer}
+use Rattle.remote_fetch.specs.Replies.{IsChunked, no_line, ended, too_long, cut_short, one_more, IsBody, IsAfter, broken, other_status, long_answer, read_body, IsAnswer}
 
 -- the same head, and the same rest
 one-head : (bytes : List ℕ) (h k : ResponseHead) (r q : List ℕ) → HasHead bytes h r → HasHead bytes k q → (h ≡ k) × (r ≡ q)
@@ -141,20 +141,20 @@ body-unique limit front bytes one other (inl (is, chunks)) (inr (is', framed_so)
 body-unique limit front bytes one other (inr (is, framed_so)) (inl (is', chunks)) = absurd (false≢true (sym is ∙ is'))
 body-unique limit front bytes one other (inr (is, framed_so)) (inr (is', framed_so')) = framed_so ∙ sym framed_so'
 
-behind-unique : (limit total : ℕ) (front : Result Front ℕ) (bytes : List ℕ) (one other : Reply) → IsBehind limit total front bytes one → IsBehind limit total front bytes other → one ≡ other
-behind-unique limit total front bytes one other broken broken = refl
-behind-unique limit total front bytes one other (other_status is) (other_status is') = refl
-behind-unique limit total front bytes one other (other_status is) (long_answer is' long) = absurd (false≢true (sym is ∙ is'))
-behind-unique limit total front bytes one other (other_status is) (read_body is' fits body) = absurd (false≢true (sym is ∙ is'))
-behind-unique limit total front bytes one other (long_answer is long) (other_status is') = absurd (false≢true (sym is' ∙ is))
-behind-unique limit total front bytes one other (long_answer is long) (long_answer is' long') = refl
-behind-unique limit total front bytes one other (long_answer is long) (read_body is' fits body) = absurd (omega (arith, long, fits))
-behind-unique limit total front bytes one other (read_body is fits body) (other_status is') = absurd (false≢true (sym is' ∙ is))
-behind-unique limit total front bytes one other (read_body is fits body) (long_answer is' long) = absurd (omega (arith, long, fits))
-behind-unique limit total (Ok front) bytes one other (read_body is fits body) (read_body is' fits' body') = body-unique limit front bytes one other body body'
+after-unique : (limit total : ℕ) (front : Result Front ℕ) (bytes : List ℕ) (one other : Reply) → IsAfter limit total front bytes one → IsAfter limit total front bytes other → one ≡ other
+after-unique limit total front bytes one other broken broken = refl
+after-unique limit total front bytes one other (other_status is) (other_status is') = refl
+after-unique limit total front bytes one other (other_status is) (long_answer is' long) = absurd (false≢true (sym is ∙ is'))
+after-unique limit total front bytes one other (other_status is) (read_body is' fits body) = absurd (false≢true (sym is ∙ is'))
+after-unique limit total front bytes one other (long_answer is long) (other_status is') = absurd (false≢true (sym is' ∙ is))
+after-unique limit total front bytes one other (long_answer is long) (long_answer is' long') = refl
+after-unique limit total front bytes one other (long_answer is long) (read_body is' fits body) = absurd (omega (arith, long, fits))
+after-unique limit total front bytes one other (read_body is fits body) (other_status is') = absurd (false≢true (sym is' ∙ is))
+after-unique limit total front bytes one other (read_body is fits body) (long_answer is' long) = absurd (omega (arith, long, fits))
+after-unique limit total (Ok front) bytes one other (read_body is fits body) (read_body is' fits' body') = body-unique limit front bytes one other body body'
 
 pub answer-unique : (limit : ℕ) (bytes : List ℕ) (one other : Reply) → IsAnswer limit bytes one → IsAnswer limit bytes other → one ≡ other
 answer-unique limit bytes one other (front, behind, is, comes) (front', behind', is', comes') =
     let (fronts, behinds) = front-unique most_passed_over 0 bytes front' front behind' behind is' is in
-    behind-unique limit (length bytes) front behind one other comes
-    (subst (λ (f : Result Front ℕ). IsBehind limit (length bytes) f behind other) fronts (subst (λ (b : List ℕ). IsBehind limit (length bytes) front' b other) behinds comes'))
+    after-unique limit (length bytes) front behind one other comes
+    (subst (λ (f : Result Front ℕ). IsAfter limit (length bytes) f behind other) fronts (subst (λ (b : List ℕ). IsAfter limit (length bytes) front' b other) behinds comes'))

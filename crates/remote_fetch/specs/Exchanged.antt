@@ -12,7 +12,7 @@ use Rattle.remote_fetch.specs.declared.replies.Reply.{Reply}
 use Rattle.remote_fetch.specs.declared.replies.Reply.TheVariants.{Fault}
 use Rattle.remote_fetch.specs.Replies.{IsAnswer, answer_limit}
 
--- the request for what stands at the plan's path with a suffix behind it
+-- the request for what stands at the plan's path with a suffix after it
 abbrev pub request_of : Plan → List ℕ → List ℕ
 request_of plan suffix =
     codes "GET " ++ plan.prefix ++ codes "/" ++ plan.path ++ suffix ++ codes " HTTP/1.1\r\nHost: " ++ plan.host ++ codes ":" ++ decimal plan.port

@@ -31,7 +31,7 @@ framed limit at (Known n) bytes = cut_body limit at bytes n
 framed limit at Missing bytes = if nat_lt limit (length bytes) then TooLarge else Body bytes
 framed limit at Wrong bytes = Bad at
 
--- Chunks up to the one of size 0, behind those that came before. A chunk that is not whole is bad at its size line.
+-- Chunks up to the one of size 0, after those that came before. A chunk that is not whole is bad at its size line.
 pub data IsChunked (limit : ℕ) : ℕ → List ℕ → List ℕ → Reply → Type 0 where
   no_line : {at : ℕ} {before bytes : List ℕ} → HasNoChunkLine bytes → IsChunked limit at before bytes (Bad at)
   ended : {at : ℕ} {before bytes : List ℕ} (l : ChunkLine) (rest : List ℕ) → ReadsChunkLine bytes l rest → chunk_size l ≡ 0 → IsChunked limit at before bytes (Body before)
@@ -55,15 +55,15 @@ is_gone_status status = (status == 404) || (status == 410)
 abbrev pub without_body : ℕ → Reply
 without_body status = if is_gone_status status then Gone else Refused status
 
--- what comes behind the head, which ends an answer of so many bytes
-pub data IsBehind (limit total : ℕ) : Result Front ℕ → List ℕ → Reply → Type 0 where
-  broken : {at : ℕ} {bytes : List ℕ} → IsBehind limit total (Err at) bytes (Bad at)
-  other_status : {front : Front} {bytes : List ℕ} → (front.status == 200) ≡ false → IsBehind limit total (Ok front) bytes (without_body front.status)
-  long_answer : {front : Front} {bytes : List ℕ} → (front.status == 200) ≡ true → answer_limit limit < total → IsBehind limit total (Ok front) bytes TooLarge
+-- what comes after the head, which ends an answer of so many bytes
+pub data IsAfter (limit total : ℕ) : Result Front ℕ → List ℕ → Reply → Type 0 where
+  broken : {at : ℕ} {bytes : List ℕ} → IsAfter limit total (Err at) bytes (Bad at)
+  other_status : {front : Front} {bytes : List ℕ} → (front.status == 200) ≡ false → IsAfter limit total (Ok front) bytes (without_body front.status)
+  long_answer : {front : Front} {bytes : List ℕ} → (front.status == 200) ≡ true → answer_limit limit < total → IsAfter limit total (Ok front) bytes TooLarge
   read_body : {front : Front} {bytes : List ℕ} {result : Reply} → (front.status == 200) ≡ true → total ≤ answer_limit limit
-      → IsBody limit front bytes result → IsBehind limit total (Ok front) bytes result
+      → IsBody limit front bytes result → IsAfter limit total (Ok front) bytes result
 
 -- what the bytes of an answer come to, whose body may have so many
 abbrev pub IsAnswer : ℕ → List ℕ → Reply → Type 0
 IsAnswer limit bytes result =
-    (front : Result Front ℕ) × (behind : List ℕ) × IsFront most_passed_over 0 bytes front behind × IsBehind limit (length bytes) front behind result
+    (front : Result Front ℕ) × (behind : List ℕ) × IsFront most_passed_over 0 bytes front behind × IsAfter limit (length bytes) front behind result

@@ -16,7 +16,7 @@ fn push_decimal(bytes: &mut Vec<u8>, number: u64) -> Result<(), AllocError>
     Ok(())
 }
 
-/// The request for what stands at a plan's path with a suffix behind it (RFC 9112, section 3).
+/// The request for what stands at a plan's path with a suffix after it (RFC 9112, section 3).
 fn request_of(alloc: Global, plan: &Plan, suffix: &[u8]) -> Result<Vec<u8>, AllocError>
     ensures { IfOk result (λ request. request.items ≡ request_of plan.now suffix.now) }
 {
@@ -34,7 +34,7 @@ fn request_of(alloc: Global, plan: &Plan, suffix: &[u8]) -> Result<Vec<u8>, Allo
     Ok(request)
 }
 
-/// Asks once for what stands at a plan's path with a suffix behind it. The body may have so many bytes.
+/// Asks once for what stands at a plan's path with a suffix after it. The body may have so many bytes.
 pub(crate) fn ask<R: Remote>(
     alloc: Global,
     remote: &mut R,

@@ -78,7 +78,7 @@ fn with_content(
 /// none, its MD5 side file. Nothing else is asked, wherever an answer points.
 ///
 /// A file is got as the bytes that came, and a document as it is read from them, in both cases where the side file says the
-/// digest of the bytes. Where memory is wanting some of these exchanges may have been made.
+/// digest of the bytes. When memory runs out some of these exchanges may have been made.
 pub fn fetch<R: Remote>(
     alloc: Global,
     remote: &mut R,

@@ -89,7 +89,7 @@ fn is_informational(status: u16) -> bool
     status >= 100 && status < 200
 }
 
-/// The head of an answer that counts, behind informational ones, at most 8 of which are passed over; or the place of what is
+/// The head of an answer that counts, after informational ones, at most 8 of which are passed over; or the place of what is
 /// no head.
 pub(crate) fn read_front(alloc: Global, bytes: &[u8]) -> Result<Result<Front, usize>, AllocError>
     requires room { length bytes.now ≤ 9_223_372_036_854_775_807 }

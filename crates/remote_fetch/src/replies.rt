@@ -1,7 +1,7 @@
 //! The body of an answer: by its length, in chunks, or up to the end.
 ghost use Rattle.std.specs.Prelude.{◌≡◌, ◌≤◌, ◌+◌, ℕ, List, [], length, drop, take, Ok, IfOk};
 ghost use Rattle.remote_fetch.specs.Replies as spec;
-ghost use Rattle.remote_fetch.specs.Replies.{IsAnswer, IsBehind, IsBody, IsChunked, without_body};
+ghost use Rattle.remote_fetch.specs.Replies.{IsAnswer, IsAfter, IsBody, IsChunked, without_body};
 ghost use Rattle.remote_fetch.specs.Chunks.{IsLineGiven, IsChunkGiven};
 
 use crate::heads::{Front, behind, read_front};
@@ -83,7 +83,7 @@ fn line_at(bytes: &[u8]) -> Option<(usize, u64)>
     }
 }
 
-/// A chunk of a size in front of the bytes, behind which CR LF stands.
+/// A chunk of a size in front of the bytes, after which CR LF stands.
 fn chunk_at(bytes: &[u8], size: usize) -> Option<&[u8]>
     requires room { size ≤ 4_294_967_296 }
     ensures { IsChunkGiven size bytes.now result }
@@ -127,8 +127,8 @@ fn chunked(alloc: Global, limit: u64, bytes: &[u8], start: usize) -> Result<Repl
     }
 }
 
-/// What the bytes behind a head come to.
-fn body_behind(alloc: Global, limit: u64, bytes: &[u8], front: &Front) -> Result<Reply, AllocError>
+/// What the bytes after a head come to.
+fn body_after(alloc: Global, limit: u64, bytes: &[u8], front: &Front) -> Result<Reply, AllocError>
     requires start { front.now.ends ≤ length bytes.now }
     requires room { length bytes.now ≤ 4_294_967_296 }
     requires limit { limit ≤ 16_777_216 }
@@ -159,12 +159,12 @@ fn without_body(status: u16) -> Reply
     }
 }
 
-/// What comes behind a head.
+/// What comes after a head.
 fn behind_head(alloc: Global, limit: u64, bytes: &[u8], front: &Front) -> Result<Reply, AllocError>
     requires start { front.now.ends ≤ length bytes.now }
     requires room { length bytes.now ≤ 4_294_967_296 }
     requires limit { limit ≤ 16_777_216 }
-    ensures { IfOk result (IsBehind limit (length bytes.now) (Ok front.now) (drop front.now.ends bytes.now)) }
+    ensures { IfOk result (IsAfter limit (length bytes.now) (Ok front.now) (drop front.now.ends bytes.now)) }
 {
     if front.status != 200 {
         return Ok(without_body(front.status));
@@ -172,7 +172,7 @@ fn behind_head(alloc: Global, limit: u64, bytes: &[u8], front: &Front) -> Result
     if bytes.len() as u64 > 2 * limit + 65_536 {
         return Ok(Reply::TooLarge);
     }
-    body_behind(alloc, limit, bytes, front)
+    body_after(alloc, limit, bytes, front)
 }
 
 /// What an answer of a remote comes to, whose body may have so many bytes (RFC 9112, sections 4, 6.3 and 7.1).

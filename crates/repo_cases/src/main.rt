@@ -8,18 +8,18 @@
 //! | `--core FILE ..` | files of cases of steps of `core_steps`, at the repository alone |
 //! | `--bench WORD ..` | a repository under many commands, for `bench/core` |
 //!
-//! They stand in this order, and each may be missing; where `--steps` or `--core` has no file behind it, its cases stand in the standard
-//! input. Texts that a file names count in the files of its kind behind it. The status is 0 where all cases go as they have to, and 1 where
-//! one does not, or a file is refused or not read; nothing behind `--bench` is done then.
+//! They stand in this order, and each may be missing; where `--steps` or `--core` has no file after it, its cases stand in the standard
+//! input. Texts that a file names count in the files of its kind after it. The status is 0 where all cases go as they have to, and 1 where
+//! one does not, or a file is refused or not read; nothing after `--bench` is done then.
 //!
 //! | Step of `--steps` | What it does, or tells |
 //! |---|---|
-//! | `journal BYTES ..` | the records are a journal with this file, whose words stand one behind the other, with the escapes of a line of text |
-//! | `journal-fails N PART BYTES ..` | the same, of whose disk call N fails, a write behind its first PART bytes |
-//! | `many N FRONT BEHIND` | the same with one change of N files, of at most 9,999, that an older program recorded, their numbers from 1,000 on, and what desk and cleaner have of them; of an item what stands before the path and behind the number |
+//! | `journal BYTES ..` | the records are a journal with this file, whose words stand one after the other, with the escapes of a line of text |
+//! | `journal-fails N PART BYTES ..` | the same, of whose disk call N fails, a write after its first PART bytes |
+//! | `many N FRONT AFTER` | the same with one change of N files, of at most 9,999, that an older program recorded, their numbers from 1,000 on, and what desk and cleaner have of them; of an item what stands before the path and after the number |
 //! | `records-fail N` | the records are in memory, empty, and call N of them fails |
 //! | `store N TEXT ..` | what desk and cleaner have stored, each for itself |
-//! | `blobs-fail N`, `garbage-fails N` | the next `store` gives the desk, or the cleaner, a store of which call N fails, counted behind it |
+//! | `blobs-fail N`, `garbage-fails N` | the next `store` gives the desk, or the cleaner, a store of which call N fails, counted after it |
 //! | `settings TEXT`, `at N`, `room N` | the settings, the moment of the clock, and the room for lines |
 //! | `run COMMAND INPUT` | a run with one connection that gives this input: its status and its lines, `;` being a line's end |
 //! | `trial COMMAND INPUT FIRST SECOND` | such a run, which may fail; a check by the same disk and store; over the file that the first run left a new start's check, and what it answers to both other inputs |
@@ -27,7 +27,7 @@
 //! | `recorded BYTES ..`, `length` | whether the journal has this file, or the file that it has; how long that is |
 //! | `blobs` | the numbers that desk and cleaner removed, and those that the desk has |
 //!
-//! Behind `--bench` stand `counts` or `times`, `releases` or `snapshots`, how many rows are meant, how many versions an artifact or
+//! After `--bench` stand `counts` or `times`, `releases` or `snapshots`, how many rows are meant, how many versions an artifact or
 //! builds a directory has, the stride from one row to the next, how many builds are kept, and then steps, each a name and the turns from
 //! and before which it is taken, as `put:0:400`. Each line has a form of commands, how many were called and what their replies say in
 //! all; with `times` also how many nanoseconds the calls took. The status is 2 where they are none of these.

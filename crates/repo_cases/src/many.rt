@@ -11,7 +11,7 @@ fn bytes_in(alloc: Global, word: &str) -> Result<Vec<u8>, AllocError> {
     Ok(bytes)
 }
 
-/// The item of the file of a number, between what stands before its path and behind its number.
+/// The item of the file of a number, between what stands before its path and after its number.
 fn push_item(
     alloc: Global,
     bytes: &mut Vec<u8>,

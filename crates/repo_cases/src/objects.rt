@@ -130,7 +130,7 @@ pub(crate) fn went_of(
     })
 }
 
-/// A word and a number behind it.
+/// A word and a number after it.
 fn push_number(
     alloc: Global,
     words: &mut Vec<String>,

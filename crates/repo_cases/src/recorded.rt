@@ -26,7 +26,7 @@ impl Recorded {
     }
 }
 
-/// A journal over a disk in memory, which has this file, and of which these calls fail, a write among them behind its first `part`
+/// A journal over a disk in memory, which has this file, and of which these calls fail, a write among them after its first `part`
 /// bytes.
 pub(crate) fn journal_of(
     alloc: Global,

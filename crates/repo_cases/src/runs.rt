@@ -74,7 +74,7 @@ fn run_on(
 const BLOCK: usize = 4096;
 
 /// What the run before that of a case leaves. Nothing where that run did not end well.
-fn store_behind(alloc: Global, case: &Case, script: Script) -> Result<Option<Store>, AllocError> {
+fn store_after(alloc: Global, case: &Case, script: Script) -> Result<Option<Store>, AllocError> {
     let store: Store = store_of(alloc, case, script)?;
     if case.before.is_empty() {
         return Ok(Some(store));
@@ -97,7 +97,7 @@ pub(crate) fn run_of(
     script: Script,
     most: usize,
 ) -> Result<Option<Went>, AllocError> {
-    let Some(mut store) = store_behind(alloc, case, script)? else {
+    let Some(mut store) = store_after(alloc, case, script)? else {
         return Ok(None);
     };
     lose(&mut store.blobs, case);

@@ -22,7 +22,7 @@ const SCRIPT: Script = Script {
 };
 
 /// A store with these blobs, of which this call fails, if there is one, counted from 0 once they stand there.
-pub(crate) fn blobs_behind(
+pub(crate) fn blobs_after(
     alloc: Global,
     all: &[Stored],
     failing: Option<u64>,

@@ -2,7 +2,7 @@
 use crate::many::{file_of, stored_with};
 use crate::objects::{listed, records_of};
 use crate::recorded::{Recorded, journal_of};
-use crate::stand::{Stand, blobs_behind};
+use crate::stand::{Stand, blobs_after};
 use case_texts::{Stored, Tale, copied, number_of, run_together, shown, text_of};
 use std::alloc::{AllocError, Global};
 
@@ -10,7 +10,7 @@ fn number_in(word: &String) -> u64 {
     number_of(word.as_str()).unwrap_or(0)
 }
 
-/// Numbers, each behind a blank.
+/// Numbers, each after a blank.
 fn push_numbers(told: &mut String, numbers: &[u64]) -> Result<(), AllocError> {
     for number in numbers {
         write!(told, " {number}")?;
@@ -34,7 +34,7 @@ fn stored_of(alloc: Global, words: &[String]) -> Result<Vec<Stored>, AllocError>
     Ok(all)
 }
 
-/// Lines, each behind a blank, `;` being a line's end.
+/// Lines, each after a blank, `;` being a line's end.
 fn push_lines(told: &mut String, text: &str) -> Result<(), AllocError> {
     for (n, line) in text.split('\n').enumerate() {
         told.push_str(if n == 0 { "" } else { ";" })?;
@@ -104,8 +104,8 @@ impl Stand {
 
     /// Sets what desk and cleaner have.
     fn store(&mut self, all: &[Stored]) -> Result<(), AllocError> {
-        self.blobs = blobs_behind(self.alloc, all, self.blobs_fail.take())?;
-        self.garbage = blobs_behind(self.alloc, all, self.garbage_fails.take())?;
+        self.blobs = blobs_after(self.alloc, all, self.blobs_fail.take())?;
+        self.garbage = blobs_after(self.alloc, all, self.garbage_fails.take())?;
         Ok(())
     }
 

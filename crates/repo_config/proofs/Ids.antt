@@ -12,7 +12,7 @@ pub some_id : (ids : List (Bor (List ℕ))) (id : List ℕ) → is_among (map (�
 some_id [] id = refl
 some_id (other ∷ ids) id = ap (λ rest. bytes_eq other.now id || rest) (some_id ids id)
 
--- the members of one group, and of those behind it
+-- the members of one group, and of those after it
 pub find-groups : (test : List ℕ → Bool) (groups : List GroupRule) (i : ℕ) (group : GroupRule) → i < length groups
     → group ≡ get_or groups i group
     → find test (flat_map (λ g. g.members) (drop i groups))

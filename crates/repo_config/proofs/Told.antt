@@ -9,7 +9,7 @@ use Rattle.repo_config.specs.Refusal.{reading}
 use Rattle.repo_config.specs.Source.{IsReadFrom}
 use Rattle.repo_config.specs.declared.source.SourceFault.TheVariants.{Failed}
 
--- a text that is too long is refused, whatever stands behind it
+-- a text that is too long is refused, whatever stands after it
 long : (front rest : List ℕ) (b : Bool) → ltb 65536 (length front) ≡ b → (length front ≤ 65536 → rest ≡ []) → reading (front ++ rest) ≡ reading front
 long front rest true is whole =
     let more : ltb 65536 (length (front ++ rest)) ≡ true = lt-ltb _ _ (omega (arith, ltb-true _ _ is, length-append front rest)) in

@@ -53,7 +53,7 @@ reading text =
     if nat_lt 65536 (length text) then Err (fault.Range (codes "settings"))
     else option_map_or reading_of (document_of text) (Err fault.NotToml)
 
--- this refusal is the due one, unless memory was wanting
+-- this refusal is the due one, unless memory ran out
 abbrev pub IsDue : Option SettingsFault → SettingsFault → Type 0
 IsDue due fault.NoMemory = Unit {0}
 IsDue due found = due ≡ Some found
@@ -62,7 +62,7 @@ abbrev pub IsFault : Result Settings SettingsFault → SettingsFault → Type 0
 IsFault due fault.NoMemory = Unit {0}
 IsFault due found = due ≡ Err found
 
--- there is no document, unless memory was wanting
+-- there is no document, unless memory ran out
 abbrev pub IsNoDocument : Option Members → SettingsFault → Type 0
 IsNoDocument document fault.NoMemory = Unit {0}
 IsNoDocument document found = (document ≡ None) × (found ≡ fault.NotToml)

@@ -149,7 +149,7 @@ module _ (w : Parts) (at : ℕ) (path : List ℕ) (n : ℕ) (blob : Blob) (among
     so (inl is) = subst (LeftSo due_stage) (sym is) (left-as-due due_stage (staged-by path n blob (open_of at w.state)))
     so (inr is) = subst (LeftSo due_stage) (sym is) refl
 
--- ---- the numbers and the files behind a blob that was to be staged
+-- ---- the numbers and the files after a blob that was to be staged
 pub session-staged : (n : ℕ) (reply : Reply) (yard : Yard) → (yard_staged n reply yard).next_session ≡ yard.next_session
 session-staged n staged yard = refl
 session-staged n no_memory yard = refl

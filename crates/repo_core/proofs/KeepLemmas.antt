@@ -7,7 +7,7 @@ use Rattle.repo_model.specs.History.{ticked}
 use Rattle.repo_model.specs.May.{AllMay}
 use Rattle.repo_model.specs.Tables.{Tables}
 use Rattle.repo_model.specs.Turn.{turn}
-use Rattle.row_tables.specs.Stops.{Unsettled}
+use Rattle.row_tables.specs.Crashes.{Unsettled}
 use Rattle.repo_laws.specs.Holds.{Holds}
 use Rattle.repo_laws.specs.Sound.{OnePlace, Sound}
 use Rattle.repo_laws.proofs.Histories.{all-may-ticked, one-place-ticked, sound-ticked}

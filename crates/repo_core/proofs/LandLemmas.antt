@@ -14,7 +14,7 @@ use Rattle.fetch_plan.specs.declared.Plan.{Plan}
 use Rattle.fetch_plan.specs.declared.Outcome.TheVariants.{Got, Gone}
 use Rattle.repo_model.specs.Command.{is_landing, land, meets, proxy_rule_of}
 use Rattle.repo_model.specs.Data.{Blob, Hosted, Proxy, Row, Session}
-use Rattle.repo_model.specs.Effect.{Effect, clears_mark, proxies_after, recorded, with_effects, with_number, without_mark}
+use Rattle.repo_model.specs.Effect.{Effect, clears_negative, proxies_after, recorded, with_effects, with_number, without_negative}
 use Rattle.repo_model.specs.Fetched.{Landing, got_doc, got_file}
 use Rattle.repo_model.specs.Reply.{is_free, landed, no_draft, no_memory, store_fault}
 use Rattle.repo_model.specs.Settings.{ProxyRule, Settings}
@@ -87,12 +87,12 @@ failed-left s draft effects NotKept is = absurd (false≢true is)
 failed-left s None effects answer is = refl
 failed-left s (Some n) effects answer is = refl
 
--- its draft is given up behind other effects, by which nothing is kept
+-- its draft is given up after other effects, by which nothing is kept
 up-left : (s : State) (draft : Option ℕ) → Left s draft (gives_draft_up draft) (answer_of (gives_draft_up draft))
 up-left s None = refl
 up-left s (Some n) = refl
 
-cleared-left : (s : State) (plan : Plan) (draft : Option ℕ) → Left s draft (clears_mark plan.proxy plan.path ∷ gives_draft_up draft) (answer_of (clears_mark plan.proxy plan.path ∷ gives_draft_up draft))
+cleared-left : (s : State) (plan : Plan) (draft : Option ℕ) → Left s draft (clears_negative plan.proxy plan.path ∷ gives_draft_up draft) (answer_of (clears_negative plan.proxy plan.path ∷ gives_draft_up draft))
 cleared-left s plan None = refl
 cleared-left s plan (Some n) = refl
 
@@ -188,17 +188,17 @@ module _ (kept : List ℕ) (proxies : List Proxy) (used : AreCachedInUse kept pr
   cached-up None = used
   cached-up (Some n) = used
 
-  cleared-used : (plan : Plan) → AreCachedInUse kept (proxies_after (clears_mark plan.proxy plan.path) proxies)
-  cleared-used plan = other-kept kept plan.proxy (λ (p : Proxy). record p { marks = without_mark plan.path p.marks }) (λ p. refl) proxies used
+  cleared-used : (plan : Plan) → AreCachedInUse kept (proxies_after (clears_negative plan.proxy plan.path) proxies)
+  cleared-used plan = other-kept kept plan.proxy (λ (p : Proxy). record p { negatives = without_negative plan.path p.negatives }) (λ p. refl) proxies used
 
-  cached-cleared : (plan : Plan) (draft : Option ℕ) → CachedLeft kept draft (clears_mark plan.proxy plan.path ∷ gives_draft_up draft) (answer_of (clears_mark plan.proxy plan.path ∷ gives_draft_up draft)) proxies
+  cached-cleared : (plan : Plan) (draft : Option ℕ) → CachedLeft kept draft (clears_negative plan.proxy plan.path ∷ gives_draft_up draft) (answer_of (clears_negative plan.proxy plan.path ∷ gives_draft_up draft)) proxies
   cached-cleared plan None = cleared-used plan
   cached-cleared plan (Some n) = cleared-used plan
 
   cached-file : (plan : Plan) (blob : Blob) (now : ℕ) (found : Option Row) → plan.draft ≡ Some blob.number → CachedLeft kept plan.draft (lands_file plan blob now found) (answer_of (lands_file plan blob now found)) proxies
   cached-file plan blob now None is =
       subst (λ draft. AreCachedInUse (kept_landed draft Kept kept) (proxies_after_all (lands_file plan blob now None) proxies)) (sym is)
-      (other-kept (with_number blob.number kept) plan.proxy (λ (p : Proxy). record p { marks = without_mark plan.path p.marks }) (λ p. refl) _
+      (other-kept (with_number blob.number kept) plan.proxy (λ (p : Proxy). record p { negatives = without_negative plan.path p.negatives }) (λ p. refl) _
       (file-kept (with_number blob.number kept) plan.proxy _ proxies (cached-more kept blob.number proxies used) (among-new blob.number kept)))
   cached-file plan blob now (Some row) is = cached-cleared plan plan.draft
 
@@ -206,7 +206,7 @@ module _ (kept : List ℕ) (proxies : List Proxy) (used : AreCachedInUse kept pr
       → CachedLeft kept plan.draft (lands_by files now plan (Got (got_doc document))) (answer_of (lands_by files now plan (Got (got_doc document)))) proxies
   cached-document plan document files now is =
       subst (λ draft. AreCachedInUse (kept_landed draft NotKept kept) (proxies_after_all (lands_by files now plan (Got (got_doc document))) proxies)) (sym is)
-      (other-kept kept plan.proxy (λ (p : Proxy). record p { marks = without_mark plan.path p.marks }) (λ p. refl) _ (other-kept kept plan.proxy _ (λ p. refl) proxies used))
+      (other-kept kept plan.proxy (λ (p : Proxy). record p { negatives = without_negative plan.path p.negatives }) (λ p. refl) _ (other-kept kept plan.proxy _ (λ p. refl) proxies used))
 
   cached-gone : (plan : Plan) (files : List Row) (now : ℕ) (draft : Option ℕ) → plan.draft ≡ draft → CachedLeft kept draft (lands_by files now plan Gone) (answer_of (lands_by files now plan Gone)) proxies
   cached-gone plan files now None is = rw is (other-kept kept plan.proxy _ (λ p. refl) proxies used)

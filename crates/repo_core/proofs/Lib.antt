@@ -10,4 +10,4 @@ mod PurgeTurns
 mod SideLemmas
 mod StartLemmas
 mod Turning
-mod StopTurns
+mod CrashTurns

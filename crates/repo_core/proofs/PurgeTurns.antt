@@ -87,7 +87,7 @@ turned-unlisted w repo n hosted count rows = record {
   left = ap (λ hs. record w.state { hosted = hs }) rows ∙ left-by w.state repo (hosted_of repo w.state) refl;
 }
 
--- rows of a repository were unlisted, once that was recorded; or memory was wanting; or the records failed
+-- rows of a repository were unlisted, once that was recorded; or memory ran out; or the records failed
 module _ (w : Parts) (repo : List ℕ) (old new : Hosted) (here : find (is_repository repo) w.state.hosted ≡ Some old) (told told' : Option Tables) (faults faults' : ℕ) where
   abbrev then_left : Parts
   then_left = record w { state = record w.state { hosted = with_lent repo w.state.hosted new } }

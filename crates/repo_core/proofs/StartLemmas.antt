@@ -25,7 +25,7 @@ use Rattle.repo_laws.proofs.HoldingLists.{all-join, all-split}
 use Rattle.repo_laws.proofs.Lists.{all-both, all-then}
 use Rattle.repo_laws.proofs.Starting.{each-from, greatest-below-end, greatest-from, started-stands}
 use Rattle.repo_laws.proofs.StartedSound.{started-sound}
-use Rattle.row_tables.specs.Stops.{Unsettled}
+use Rattle.row_tables.specs.Crashes.{Unsettled}
 use Rattle.row_tables.specs.Items.{is_file_path}
 use Rattle.row_tables.specs.Recorded.{IsBuiltUp}
 use Rattle.row_tables.specs.Records.{Expected}

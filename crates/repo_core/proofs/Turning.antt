@@ -40,8 +40,8 @@ use Rattle.repo_laws.proofs.Keeping.{keeps-sound}
 use Rattle.repo_laws.proofs.Moments.{last_of}
 use Rattle.row_tables.specs.Applying.{with_items}
 use Rattle.row_tables.specs.Commits.{tables_with}
-use Rattle.row_tables.specs.Stopping.{tried}
-use Rattle.row_tables.specs.Stops.{HasReplyStop, IsCommitted, Unsettled}
+use Rattle.row_tables.specs.Crashing.{tried}
+use Rattle.row_tables.specs.Crashes.{HasReplyCrash, IsCommitted, Unsettled}
 use Rattle.std.specs.Option.{ForSome}
 use Rattle.std.proofs.lemmas.Bool.{false≢true, ne_eqb}
 use Rattle.std.proofs.lemmas.Option.{none-some}
@@ -77,7 +77,7 @@ pub counts-found : (w : Parts) (files unlisted cached documents opened : ℕ) �
 counts-found w files unlisted cached documents opened some_open all some files_kept documents_kept =
     λ i. Counts (all i) (some i) (files_kept i) (documents_kept i) (some_open i)
 
--- memory is wanting for a command that takes some
+-- memory runs out for a command that takes some
 pub turned-without : (w : Parts) (command : Command) → takes_memory command ≡ true → Turned w w command no_memory
 turned-without w command takes = record { settings = refl; calls = refl; answered = inr (refl, takes); left = refl }
 
@@ -143,7 +143,7 @@ module _ (w begun new : Parts) (moment : ℕ) (command : Command) (reply : Reply
   reply_is : (turn begun.settings begun.state begun.state.last command).reply ≡ (turn w.settings old new.state.last command).reply
   reply_is = ap (λ (t : Turn). t.reply) turn_is
 
-  -- the reply that is due is none of a failure, nor is want of memory
+  -- the reply that is due is none of a failure, nor is out of memory
   bound-due : reply ≡ (turn begun.settings begun.state begun.state.last command).reply → reply ≡ store_fault → ⊥
   bound-due is fault = false≢true (sym (no-free begun.settings begun.state begun.state.last command) ∙ ap is_free (sym is ∙ fault))
 
@@ -173,9 +173,9 @@ module _ (w begun new : Parts) (moment : ℕ) (command : Command) (reply : Reply
   turned-tables = turned.tables ∙ ap (λ (t : Turn). tables_with (recorded (if is_free reply then [] else t.effects)) told) turn_is
 
   -- so what it was to record
-  pub turned-stop : (now then_so : Unsettled) → HasReplyStop (recorded (turn begun.settings begun.state begun.state.last command).effects) told now then_so reply
-      → HasReplyStop (tried w.settings old made) told now then_so reply
-  turned-stop now then_so stops = subst (λ (t : Turn). HasReplyStop (recorded t.effects) told now then_so reply) turn_is stops
+  pub turned-crash : (now then_so : Unsettled) → HasReplyCrash (recorded (turn begun.settings begun.state begun.state.last command).effects) told now then_so reply
+      → HasReplyCrash (tried w.settings old made) told now then_so reply
+  turned-crash now then_so crashes = subst (λ (t : Turn). HasReplyCrash (recorded t.effects) told now then_so reply) turn_is crashes
 
 -- a state is as orderly once the clock was read
 pub ticked-orderly : (w : Parts) (moment calls : ℕ) → IsOrderly w → IsOrderly (record { settings = w.settings; state = ticked w.state moment 0; calls = calls })
@@ -198,7 +198,7 @@ pub some-items : (items : List Item) → (items ≡ [] → ⊥) → not (length 
 some-items [] some = absurd (some refl)
 some-items (item ∷ items) some = ap not (ne_eqb (length (item ∷ items)) 0 (λ none. omega (arith, none)))
 
--- behind a commit
+-- after a commit
 pub settled-by : (reply : Reply) (unsettled : Unsettled) → unsettled.pending ≡ None → IsSettledBy reply unsettled
 settled-by (collected expired blobs) unsettled is = is
 settled-by reply unsettled is = tt
@@ -303,10 +303,10 @@ kept-more old new e kept fits state settings tables =
           subst (Tell (after old.settings old.state e)) same (record { order = more.1; holds = more.2 })
 
 -- what asks no records leaves unsettled what was so
-still-stop : (items : List Item) (told : Option Tables) (now : Unsettled) (reply : Reply) → items ≡ [] → (reply ≡ store_fault → ⊥) → HasReplyStop items told now now reply
-still-stop items told now store_fault none other = absurd (other refl)
-still-stop items told now no_memory none other = inl refl
-still-stop items told now reply none other = inl (none, refl)
+still-crash : (items : List Item) (told : Option Tables) (now : Unsettled) (reply : Reply) → items ≡ [] → (reply ≡ store_fault → ⊥) → HasReplyCrash items told now now reply
+still-crash items told now store_fault none other = absurd (other refl)
+still-crash items told now no_memory none other = inl refl
+still-crash items told now reply none other = inl (none, refl)
 
 -- a command that records nothing, and what was asked for
 module _ (old new : Parts) (asked command : Command) (reply : Reply) (told : Option Tables) (n : ℕ) (now : Unsettled) where
@@ -314,19 +314,19 @@ module _ (old new : Parts) (asked command : Command) (reply : Reply) (told : Opt
   items = recorded (turn old.settings old.state old.state.last asked).effects
 
   pub alone : asked ≡ command → items ≡ [] → IsSettled asked reply now → Turned old new asked reply
-      → Recorded old new command reply told told n n × IsSettled command reply now × HasReplyStop (recorded (turn old.settings old.state old.state.last command).effects) told now now reply
+      → Recorded old new command reply told told n n × IsSettled command reply now × HasReplyCrash (recorded (turn old.settings old.state old.state.last command).effects) told now now reply
   alone same none settled turned =
-      subst (λ q. Recorded old new q reply told told n n × IsSettled q reply now × HasReplyStop (recorded (turn old.settings old.state old.state.last q).effects) told now now reply) same
-      (recorded-so old new asked reply told told n n turned (by (is_free reply)) refl, settled, still-stop items told now reply none (no-failure old new asked reply turned)) where
+      subst (λ q. Recorded old new q reply told told n n × IsSettled q reply now × HasReplyCrash (recorded (turn old.settings old.state old.state.last q).effects) told now now reply) same
+      (recorded-so old new asked reply told told n n turned (by (is_free reply)) refl, settled, still-crash items told now reply none (no-failure old new asked reply turned)) where
         by : (b : Bool) → told ≡ (if b then told else tables_with items told)
         by true = refl
         by false = quiet told ∙ ap (λ is. tables_with is told) (sym none)
 
 -- a reply that is none of failure
-pub committed-stop : (items : List Item) (told : Option Tables) (before after : Unsettled) (reply : Reply) → is_free reply ≡ false → IsCommitted items told before after → HasReplyStop items told before after reply
-committed-stop items told before after store_fault bound done = absurd (false≢true (sym bound))
-committed-stop items told before after no_memory bound done = absurd (false≢true (sym bound))
-committed-stop items told before after reply bound done = done
+pub committed-crash : (items : List Item) (told : Option Tables) (before after : Unsettled) (reply : Reply) → is_free reply ≡ false → IsCommitted items told before after → HasReplyCrash items told before after reply
+committed-crash items told before after store_fault bound done = absurd (false≢true (sym bound))
+committed-crash items told before after no_memory bound done = absurd (false≢true (sym bound))
+committed-crash items told before after reply bound done = done
 
 -- any command whose change is recorded
 pub recorded-by : (w new : Parts) (command : Command) (t : Turn) (reply : Reply) (told told' : Option Tables) (faults faults' : ℕ) → turn w.settings w.state w.state.last command ≡ t

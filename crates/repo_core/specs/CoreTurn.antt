@@ -10,17 +10,17 @@ use Rattle.repo_model.specs.declared.reply.Reply.{Reply}
 use Rattle.repo_model.specs.Effect.{recorded}
 use Rattle.repo_model.specs.History.{Entry, Fits, after, effects_of}
 use Rattle.row_tables.specs.Commits.{tables_with}
-use Rattle.row_tables.specs.Stopping.{Stopping}
+use Rattle.row_tables.specs.Crashing.{Crashing}
 use Rattle.repo_core.specs.Turn.{IsSettled}
 use Rattle.repo_core.specs.Whole.{Whole}
 
 -- under these settings the entry fits the state, the new state is the one that it leaves, what it did is recorded, at each moment a
--- stop leaves what one before the turn or behind it leaves, a Collect was committed, and the turn was counted
+-- crash leaves what one before the turn or after it leaves, a Collect was committed, and the turn was counted
 pub record CoreTurn (settings : Settings) (old : Whole) (entry : Entry) (new : Whole) : Type 0 where
   pub fits : Fits settings old.state entry
   pub state : new.state ≡ after settings old.state entry
   pub tables : new.tables ≡ tables_with (recorded (effects_of settings old.state entry)) old.tables
-  pub stops : Stopping settings old.state entry old.tables new.tables old.unsettled new.unsettled
+  pub crashes : Crashing settings old.state entry old.tables new.tables old.unsettled new.unsettled
   pub settled : IsSettled entry.command entry.reply new.unsettled
   pub same : new.settings ≡ old.settings
   pub calls : new.calls ≡ min (old.calls + 1) last_count

@@ -35,7 +35,7 @@ abbrev pub HasStartCause : (records records' blobs blobs' : ℕ) → StartFault 
 HasStartCause records records' blobs blobs' Store = (Rose records records' × (blobs' ≡ blobs)) ⊎ ((records' ≡ records) × Rose blobs blobs')
 HasStartCause records records' blobs blobs' fault = (records' ≡ records) × (blobs' ≡ blobs)
 
--- what is expected of a load: its tables, unless these are refused; a start fails otherwise, or wants memory
+-- what is expected of a load: its tables, unless these are refused; a start fails otherwise, or runs out of memory
 abbrev pub RefusesAs : Expected → StartFault → Type 0
 RefusesAs expected NoMemory = Unit {0}
 RefusesAs expected Store = Unit {0}

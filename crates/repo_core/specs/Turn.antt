@@ -10,7 +10,7 @@ use Rattle.repo_model.specs.History.{commits, latest_moment}
 use Rattle.repo_model.specs.Reply.{Reply, collected, no_memory, store_fault, takes_memory, is_free}
 use Rattle.repo_model.specs.Turn.{turn}
 use Rattle.row_tables.specs.Commits.{tables_with}
-use Rattle.row_tables.specs.Stops.{Unsettled}
+use Rattle.row_tables.specs.Crashes.{Unsettled}
 use Rattle.repo_core.specs.Whole.{Parts}
 
 -- what a command did that got this reply
@@ -24,7 +24,7 @@ pub record Turned (old new : Parts) (command : Command) (reply : Reply) : Type 0
   pub answered : (reply ≡ (turn old.settings old.state old.state.last command).reply) ⊎ ((reply ≡ no_memory) × IsTrue (takes_memory command))
   pub left : new.state ≡ with_effects old.state (done_by old.settings old.state command reply)
 
--- the reply is the one that is due, or memory was wanting, or the records failed, which were asked
+-- the reply is the one that is due, or memory ran out, or the records failed, which were asked
 pub data IsAnswer (w : Parts) (command : Command) (reply : Reply) : Type 0 where
   due : reply ≡ (turn w.settings w.state w.state.last command).reply → IsAnswer w command reply
   wants_memory : reply ≡ no_memory → IsTrue (takes_memory command) → IsAnswer w command reply

@@ -5,7 +5,7 @@ use Rattle.repo_config.specs.Form.{IsSettings}
 use Rattle.repo_model.specs.Settings.{Settings}
 use Rattle.repo_model.specs.State.{State}
 use Rattle.repo_model.specs.Tables.{Tables}
-use Rattle.row_tables.specs.Stops.{Unsettled}
+use Rattle.row_tables.specs.Crashes.{Unsettled}
 use Rattle.repo_laws.specs.Holds.{Holds, InOrder}
 use Rattle.repo_laws.specs.Sound.{IsSound, OnePlace, Sound}
 
@@ -15,7 +15,7 @@ pub record Parts : Type 0 where
   pub state : State
   pub calls : ℕ
 
--- the settings, the state of the machine, what its records tell, what a stop may leave of them beside that, and the number of calls
+-- the settings, the state of the machine, what its records tell, what a crash may leave of them beside that, and the number of calls
 -- so far
 pub record Whole : Type 0 where
   pub settings : Settings

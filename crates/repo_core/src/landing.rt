@@ -8,7 +8,7 @@ ghost use Rattle.repo_model.specs.Shown.{outcome_map, shown_got, shown_reply};
 ghost use Rattle.repo_model.specs.State.{is_among};
 ghost use Rattle.repo_model.specs.Turn.{is_drawn, turn};
 ghost use Rattle.ordered_rows.specs.Recording.{FitWhereTold};
-ghost use Rattle.row_tables.specs.Stops.{HasReplyStop};
+ghost use Rattle.row_tables.specs.Crashes.{HasReplyCrash};
 ghost use Rattle.repo_parts.specs.Proxies.{kept_landed, yard_landed};
 ghost use Rattle.repo_core.specs.Turn.{Recorded};
 ghost use Rattle.repo_core.specs.Whole.{IsOrderly};
@@ -82,7 +82,7 @@ impl<C: Clock, H: Held> Machine<C, H> {
         requires ready { K.ready records.old }
         requires items { FitWhereTold (K.tables records.old) (recorded (turn self.old.settings self.old.state self.old.state.last (land plan (outcome_map shown_got outcome))).effects) }
         ensures turn { Recorded self.old self.new (land plan (outcome_map shown_got outcome)) (shown_reply result) (K.tables records.old) (K.tables records.new) (K.faults records.old) (K.faults records.new) }
-        ensures stops { HasReplyStop (recorded (turn self.old.settings self.old.state self.old.state.last (land plan (outcome_map shown_got outcome))).effects)
+        ensures crashes { HasReplyCrash (recorded (turn self.old.settings self.old.state self.old.state.last (land plan (outcome_map shown_got outcome))).effects)
             (K.tables records.old) (K.unsettled records.old) (K.unsettled records.new) (shown_reply result) }
         ensures ready { K.ready records.new }
     {

@@ -98,8 +98,8 @@ impl<C: Clock, H: Held> Machine<C, H> {
     ghost use Rattle.repo_model.specs.Shown.{shown_parcel, shown_command, shown_reply, entry_of};
     ghost use Rattle.repo_model.specs.Turn.{turn};
     ghost use Rattle.row_tables.specs.Commits.{tables_with};
-    ghost use Rattle.row_tables.specs.Stopping.{tried};
-    ghost use Rattle.row_tables.specs.Stops.{HasReplyStop};
+    ghost use Rattle.row_tables.specs.Crashing.{tried};
+    ghost use Rattle.row_tables.specs.Crashes.{HasReplyCrash};
     ghost use Rattle.hosted_repo.specs.Expired.{blob_of};
     ghost use Rattle.ordered_rows.specs.Recording.{FitWhereTold, HasReplyCause};
     ghost use Rattle.repo_parts.specs.Deploys.{AreStagedInUse};
@@ -150,7 +150,7 @@ impl<C: Clock, H: Held> Machine<C, H> {
     ///
     /// The command meets its condition, the state is in order, and the records may commit what the command does. The turn is an
     /// entry that fits the machine's state with the count of the records, and leaves the state that the machine says; the
-    /// tables, where told, are those with its items. `Done` and `Drop` take no memory. Where memory is wanting, or the records
+    /// tables, where told, are those with its items. `Done` and `Drop` take no memory. When memory runs out, or the records
     /// fail, nothing changes but the moment.
     pub fn call<K: Records>(&mut self, records: &mut K, command: Command<H>) -> Reply<H>
         requires meets { IsTrue (meets self.old.settings (shown_command command)) }
@@ -165,7 +165,7 @@ impl<C: Clock, H: Held> Machine<C, H> {
             (entry_of command self.new.state.last result (K.faults records.new)))) (K.tables records.old) }
         ensures cause { HasReplyCause (K.faults records.old) (K.faults records.new) (shown_reply result) }
         ensures settled { IsSettled (shown_command command) (shown_reply result) (K.unsettled records.new) }
-        ensures stops { HasReplyStop (tried self.old.settings (counting (K.faults records.old) self.old.state)
+        ensures crashes { HasReplyCrash (tried self.old.settings (counting (K.faults records.old) self.old.state)
             (entry_of command self.new.state.last result (K.faults records.new))) (K.tables records.old) (K.unsettled records.old) (K.unsettled records.new) (shown_reply result) }
         ensures ready { K.ready records.new }
         ensures settings { self.new.settings ≡ self.old.settings }
@@ -216,7 +216,7 @@ impl<C: Clock, H: Held> Machine<C, H> {
         requires items { FitWhereTold (K.tables records.old) (recorded (turn self.old.settings self.old.state self.old.state.last (shown_command command)).effects) }
         ensures turn { Recorded self.old self.new (shown_command command) (shown_reply result) (K.tables records.old) (K.tables records.new) (K.faults records.old) (K.faults records.new) }
         ensures settled { IsSettled (shown_command command) (shown_reply result) (K.unsettled records.new) }
-        ensures stops { HasReplyStop (recorded (turn self.old.settings self.old.state self.old.state.last (shown_command command)).effects) (K.tables records.old) (K.unsettled records.old) (K.unsettled records.new) (shown_reply result) }
+        ensures crashes { HasReplyCrash (recorded (turn self.old.settings self.old.state self.old.state.last (shown_command command)).effects) (K.tables records.old) (K.unsettled records.old) (K.unsettled records.new) (shown_reply result) }
         ensures ready { K.ready records.new }
     {
         match command {
@@ -312,7 +312,7 @@ impl<C: Clock, H: Held> Machine<C, H> {
         requires ready { K.ready records.old }
         requires items { FitWhereTold (K.tables records.old) (recorded (turn self.old.settings self.old.state self.old.state.last (put repo.now path.now draft (shown_parcel parcel))).effects) }
         ensures turn { Recorded self.old self.new (put repo.now path.now draft (shown_parcel parcel)) (shown_reply result) (K.tables records.old) (K.tables records.new) (K.faults records.old) (K.faults records.new) }
-        ensures stops { HasReplyStop (recorded (turn self.old.settings self.old.state self.old.state.last (put repo.now path.now draft (shown_parcel parcel))).effects)
+        ensures crashes { HasReplyCrash (recorded (turn self.old.settings self.old.state self.old.state.last (put repo.now path.now draft (shown_parcel parcel))).effects)
             (K.tables records.old) (K.unsettled records.old) (K.unsettled records.new) (shown_reply result) }
         ensures ready { K.ready records.new }
     {
@@ -344,7 +344,7 @@ impl<C: Clock, H: Held> Machine<C, H> {
         requires ready { K.ready records.old }
         requires items { FitWhereTold (K.tables records.old) (recorded (turn self.old.settings self.old.state self.old.state.last (unlist repo.now)).effects) }
         ensures turn { Recorded self.old self.new (unlist repo.now) (shown_reply result) (K.tables records.old) (K.tables records.new) (K.faults records.old) (K.faults records.new) }
-        ensures stops { HasReplyStop (recorded (turn self.old.settings self.old.state self.old.state.last (unlist repo.now)).effects) (K.tables records.old) (K.unsettled records.old) (K.unsettled records.new) (shown_reply result) }
+        ensures crashes { HasReplyCrash (recorded (turn self.old.settings self.old.state self.old.state.last (unlist repo.now)).effects) (K.tables records.old) (K.unsettled records.old) (K.unsettled records.new) (shown_reply result) }
         ensures ready { K.ready records.new }
     {
         let did = repo_mut(&mut self.repos, repo).unlist(records, self.last);
@@ -363,7 +363,7 @@ impl<C: Clock, H: Held> Machine<C, H> {
         requires items { FitWhereTold (K.tables records.old) (recorded (turn self.old.settings self.old.state self.old.state.last collect).effects) }
         ensures turn { Recorded self.old self.new collect (shown_reply result) (K.tables records.old) (K.tables records.new) (K.faults records.old) (K.faults records.new) }
         ensures settled { IsSettledBy (shown_reply result) (K.unsettled records.new) }
-        ensures stops { HasReplyStop (recorded (turn self.old.settings self.old.state self.old.state.last collect).effects) (K.tables records.old) (K.unsettled records.old) (K.unsettled records.new) (shown_reply result) }
+        ensures crashes { HasReplyCrash (recorded (turn self.old.settings self.old.state self.old.state.last collect).effects) (K.tables records.old) (K.unsettled records.old) (K.unsettled records.new) (shown_reply result) }
         ensures ready { K.ready records.new }
     {
         let alloc = *self.repos.allocator();
@@ -411,7 +411,7 @@ impl<C: Clock, H: Held> Machine<C, H> {
         }
     }
 
-    // What is found to a question; none where memory is wanting.
+    // What is found to a question; none when memory runs out.
     fn find(&self, question: Question) -> Option<Finding>
         requires { IsOrderly self.now }
         ensures { IfSome result (λ finding. finding ≡ finding_of self.now.state question) }

@@ -53,8 +53,8 @@ impl<K: Records, C: Clock, H: Held> Core<K, C, H> {
     ghost use Rattle.repo_laws.specs.Laws.{KeepsReleases};
     ghost use Rattle.repo_laws.specs.Sound.{IsSound};
     ghost use Rattle.row_tables.specs.Commits.{tables_with};
-    ghost use Rattle.row_tables.specs.Stopping.{Stopping};
-    ghost use Rattle.row_tables.specs.Stops.{Rests};
+    ghost use Rattle.row_tables.specs.Crashing.{Crashing};
+    ghost use Rattle.row_tables.specs.Crashes.{Rests};
     ghost use Rattle.repo_core.specs.Turn.{IsSettled};
     ghost use Rattle.repo_core.specs.Whole.{IsKept, whole_of};
 
@@ -71,14 +71,14 @@ impl<K: Records, C: Clock, H: Held> Core<K, C, H> {
     ///
     /// The command meets its condition, as [`Core::fits`] tells. The turn is an entry that fits the machine's state, and
     /// leaves the state that the machine says; the tables, where told, are those with its items, and hold the new state.
-    /// Every command but `Done` and `Drop` may want memory; where it is wanting, or where the records fail, nothing changes
+    /// Every command but `Done` and `Drop` may run out of memory; where it is wanting, or where the records fail, nothing changes
     /// but the moment and the count of the records. That count has risen where `StoreFault` is answered, and is as it was where
-    /// anything else is. A release's row stands behind each call as it stood before. A draft for a file is given only
+    /// anything else is. A release's row stands after each call as it stood before. A draft for a file is given only
     /// where the repository takes the file, and what a look says to fetch is a plan of the settings. A `Collect` is always committed, an empty one too: where it gives blobs out to be
     /// removed, no change whose commit failed, and which may name one of them, is found any more.
     ///
-    /// Where the records tell their file, a stop at any moment of the call leaves one from which a start reads the tables from before the
-    /// call or those behind it, or one of these with the change whose commit failed and is not undone.
+    /// Where the records tell their file, a crash at any moment of the call leaves one from which a start reads the tables from before the
+    /// call or those after it, or one of these with the change whose commit failed and is not undone.
     pub fn call(&mut self, command: Command<H>) -> Reply<H>
         requires { IsTrue (meets self.old.settings (shown_command command)) }
         ensures fits { Fits self.old.settings self.old.state (entry_of command self.new.state.last result self.new.state.faults) }
@@ -86,7 +86,7 @@ impl<K: Records, C: Clock, H: Held> Core<K, C, H> {
         ensures tables { self.new.tables ≡ tables_with (recorded (effects_of self.old.settings self.old.state
             (entry_of command self.new.state.last result self.new.state.faults))) self.old.tables }
         ensures holds { ForSome self.new.tables (λ t. Holds t self.new.state) }
-        ensures stops { Stopping self.old.settings self.old.state (entry_of command self.new.state.last result self.new.state.faults)
+        ensures crashes { Crashing self.old.settings self.old.state (entry_of command self.new.state.last result self.new.state.faults)
             self.old.tables self.new.tables self.old.unsettled self.new.unsettled }
         ensures settled { IsSettled (shown_command command) (shown_reply result) self.new.unsettled }
         ensures cause { HasReplyCause self.old.state.faults self.new.state.faults (shown_reply result) }

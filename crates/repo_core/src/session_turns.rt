@@ -20,7 +20,7 @@ impl<C: Clock, H: Held> Machine<C, H> {
     ghost use Rattle.repo_model.specs.State.{is_among};
     ghost use Rattle.repo_model.specs.Turn.{turn};
     ghost use Rattle.ordered_rows.specs.Recording.{FitWhereTold};
-    ghost use Rattle.row_tables.specs.Stops.{HasReplyStop};
+    ghost use Rattle.row_tables.specs.Crashes.{HasReplyCrash};
     ghost use Rattle.deploy_session.specs.Shown.{shown_abort, shown_begin, shown_commit, shown_stage};
     ghost use Rattle.repo_core.specs.Turn.{Recorded, Turned};
     ghost use Rattle.repo_core.specs.Whole.{IsOrderly};
@@ -58,7 +58,7 @@ impl<C: Clock, H: Held> Machine<C, H> {
         requires ready { K.ready records.old }
         requires items { FitWhereTold (K.tables records.old) (recorded (turn self.old.settings self.old.state self.old.state.last (open_session repo.now)).effects) }
         ensures turn { Recorded self.old self.new (open_session repo.now) (shown_begin result) (K.tables records.old) (K.tables records.new) (K.faults records.old) (K.faults records.new) }
-        ensures stops { HasReplyStop (recorded (turn self.old.settings self.old.state self.old.state.last (open_session repo.now)).effects) (K.tables records.old) (K.unsettled records.old) (K.unsettled records.new) (shown_begin result) }
+        ensures crashes { HasReplyCrash (recorded (turn self.old.settings self.old.state self.old.state.last (open_session repo.now)).effects) (K.tables records.old) (K.unsettled records.old) (K.unsettled records.new) (shown_begin result) }
         ensures ready { K.ready records.new }
     {
         let begun = self.sessions.begin(records, repo);
@@ -102,7 +102,7 @@ impl<C: Clock, H: Held> Machine<C, H> {
         requires ready { K.ready records.old }
         requires items { FitWhereTold (K.tables records.old) (recorded (turn self.old.settings self.old.state self.old.state.last (commit number)).effects) }
         ensures turn { Recorded self.old self.new (commit number) (shown_commit result) (K.tables records.old) (K.tables records.new) (K.faults records.old) (K.faults records.new) }
-        ensures stops { HasReplyStop (recorded (turn self.old.settings self.old.state self.old.state.last (commit number)).effects) (K.tables records.old) (K.unsettled records.old) (K.unsettled records.new) (shown_commit result) }
+        ensures crashes { HasReplyCrash (recorded (turn self.old.settings self.old.state self.old.state.last (commit number)).effects) (K.tables records.old) (K.unsettled records.old) (K.unsettled records.new) (shown_commit result) }
         ensures ready { K.ready records.new }
     {
         let did = commit(
@@ -123,7 +123,7 @@ impl<C: Clock, H: Held> Machine<C, H> {
         requires ready { K.ready records.old }
         requires items { FitWhereTold (K.tables records.old) (recorded (turn self.old.settings self.old.state self.old.state.last (abort number)).effects) }
         ensures turn { Recorded self.old self.new (abort number) (shown_abort result) (K.tables records.old) (K.tables records.new) (K.faults records.old) (K.faults records.new) }
-        ensures stops { HasReplyStop (recorded (turn self.old.settings self.old.state self.old.state.last (abort number)).effects) (K.tables records.old) (K.unsettled records.old) (K.unsettled records.new) (shown_abort result) }
+        ensures crashes { HasReplyCrash (recorded (turn self.old.settings self.old.state self.old.state.last (abort number)).effects) (K.tables records.old) (K.unsettled records.old) (K.unsettled records.new) (shown_abort result) }
         ensures ready { K.ready records.new }
     {
         let did = self.sessions.abort(records, number);

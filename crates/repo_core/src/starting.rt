@@ -8,7 +8,7 @@ ghost use Rattle.repo_model.specs.State.{opening};
 ghost use Rattle.repo_model.specs.Tables.{Tables as Plain, no_tables};
 ghost use Rattle.repo_laws.specs.Holds.{StandsFor};
 ghost use Rattle.row_tables.specs.Recorded.{IsBuiltUp};
-ghost use Rattle.row_tables.specs.Stops.{Rests};
+ghost use Rattle.row_tables.specs.Crashes.{Rests};
 ghost use Rattle.blob_audit.specs.Order.{all_rows};
 ghost use Rattle.repo_restart.specs.Faults.{HasRestoreCause};
 ghost use Rattle.repo_restart.specs.Faults as restoring;
@@ -77,7 +77,7 @@ fn stock_of<B: Blobs>(
 /// The records are loaded; a refusal of theirs ends the call. Where recorded files lack SHA-256 and SHA-512 these are completed,
 /// as `row_completion::complete` does, which reads each recorded file: what a blob is found to have is committed, and nothing else is.
 /// Then each recorded file is looked at: its blob is read once more and compared with what was recorded, and the first that
-/// differs, or is not there, is `Damaged`. Then the blobs that no row names are removed, in the order of the store; where that fails, or memory is wanting,
+/// differs, or is not there, is `Damaged`. Then the blobs that no row names are removed, in the order of the store; where that fails, or memory runs out,
 /// the first ones of these are gone and no others. `Store` comes where the records or the store failed.
 ///
 /// The state is the one that the machine's definition makes of the tables so completed: rows with the bytes that stand, documents

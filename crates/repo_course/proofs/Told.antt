@@ -6,10 +6,10 @@ use Rattle.repo_model.specs.Shown.{shown_reply}
 use Rattle.repo_model.specs.declared.reply.Reply.{Reply}
 use Rattle.repo_model.specs.declared.reply.Reply.TheVariants.{Draft}
 use Rattle.repo_course.specs.Course.{after_may_put, tells, with_unread}
-use Rattle.repo_course.specs.declared.manner.Manner.{Manner}
+use Rattle.repo_course.specs.declared.mode.ResponseMode.{ResponseMode}
 
-pub no-draft-told : {X : Type 0} {G : Ghosts X} (place : Place) (path : List ℕ) (length : ℕ) (expects : Bool) (manner : Manner) (reply : Reply X G)
+pub no-draft-told : {X : Type 0} {G : Ghosts X} (place : Place) (path : List ℕ) (length : ℕ) (expects : Bool) (mode : ResponseMode) (reply : Reply X G)
     → ((n : ℕ) → reply ≡ Draft n → ⊥)
-    → tells (with_unread length manner) (shown_reply reply) ≡ after_may_put place path length expects manner (shown_reply reply)
-no-draft-told place path length expects manner (Draft n) none = absurd (none n refl)
-no-draft-told place path length expects manner reply none = refl
+    → tells (with_unread length mode) (shown_reply reply) ≡ after_may_put place path length expects mode (shown_reply reply)
+no-draft-told place path length expects mode (Draft n) none = absurd (none n refl)
+no-draft-told place path length expects mode reply none = refl

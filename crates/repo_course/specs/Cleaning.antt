@@ -31,7 +31,7 @@ commands_in entries = map (λ (e : Entry). e.command) entries
 abbrev pub replies_in : List Entry → List Reply
 replies_in entries = map (λ (e : Entry). e.reply) entries
 
--- why a command was not done; any reply that it can't get counts as want of memory
+-- why a command was not done; any reply that it can't get counts as out of memory
 abbrev pub cause_of : Reply → CleanFault
 cause_of store_fault = StoreFault
 cause_of reply = NoMemory

@@ -29,39 +29,39 @@ use Rattle.repo_course.specs.declared.fetched.FetchFault.{FetchFault}
 use Rattle.repo_course.specs.declared.fetched.FetchFault.TheVariants as unfetched
 use Rattle.repo_course.specs.declared.fetched.Verdict.{Verdict}
 use Rattle.repo_course.specs.declared.fetched.Verdict.TheVariants as verdict
-use Rattle.repo_course.specs.declared.manner.Manner.{Manner}
+use Rattle.repo_course.specs.declared.mode.ResponseMode.{ResponseMode}
 use Rattle.repo_course.specs.declared.outcomes.Continued.{Continued}
 use Rattle.repo_course.specs.declared.outcomes.Continued.TheVariants as continued
 use Rattle.repo_course.specs.declared.outcomes.End.{End}
 use Rattle.repo_course.specs.declared.outcomes.End.TheVariants as stream
 use Rattle.repo_course.specs.declared.outcomes.Took.{Took}
 use Rattle.repo_course.specs.declared.outcomes.Took.TheVariants as took
-use Rattle.repo_course.specs.declared.said.Said.{Said}
-use Rattle.repo_course.specs.declared.said.Said.TheVariants as said
-pub use Rattle.repo_course.specs.Deeds.{Stored, Body, Pass, Fetch, Kept, Deed, invite, take_body, read_body, send_file, clean_all, fetch, store_fetched, Outcome, Close, speaks, rests, end_of, of_fault, of_sent, of_pass, of_store}
+use Rattle.repo_course.specs.declared.response.Response.{Response}
+use Rattle.repo_course.specs.declared.response.Response.TheVariants as response
+pub use Rattle.repo_course.specs.IoActions.{Stored, Body, Pass, Fetch, Kept, IoAction, invite, take_body, read_body, send_file, clean_all, fetch, store_fetched, Outcome, Close, speaks, rests, end_of, of_fault, of_sent, of_pass, of_store}
 
 -- what comes next, and then what follows each result
 pub data Course : Type 0 where
   -- a command of the machine
   asks : Command → (Reply → Course) → Course
-  -- a deed outside it
-  does : (deed : Deed) → (Outcome deed → Course) → Course
+  -- an I/O action outside it
+  does : (io_action : IoAction) → (Outcome io_action → Course) → Course
   -- an answer that says so; then the stream ends where the request or a body that was not read asks for it, or goes on
-  says : Said → Manner → Course
+  says : Response → ResponseMode → Course
   -- nothing more is written; then the stream ends so, or goes on
   stops : Option End → Course
 
-abbrev pub without_memory : Manner → Course
-without_memory manner = says said.NoMemory (at_end manner.head_only)
+abbrev pub without_memory : ResponseMode → Course
+without_memory mode = says response.NoMemory (at_end mode.head_only)
 
--- an answer; where memory was wanted it ends the connection
-abbrev pub answers : Manner → Said → Course
-answers manner said.NoMemory = without_memory manner
-answers manner said = says said manner
+-- an answer; where memory ran out it ends the connection
+abbrev pub answers : ResponseMode → Response → Course
+answers mode response.NoMemory = without_memory mode
+answers mode said = says said mode
 
-abbrev pub closes : Manner → Close → Course
-closes manner (speaks said) = answers manner said
-closes manner (rests end) = stops end
+abbrev pub closes : ResponseMode → Close → Course
+closes mode (speaks said) = answers mode said
+closes mode (rests end) = stops end
 
 abbrev pub gives_up : ℕ → Course → Course
 gives_up n course = asks (drop_draft n) (λ reply. course)
@@ -85,50 +85,50 @@ abbrev pub invites : Bool → (cut body : Course) → Course
 invites expects cut body = if expects then does invite (after_continue cut body) else body
 
 -- the file is sent, and its lease given back whatever came of it
-abbrev pub sends_file : Manner → ℕ → Blob → Course
-sends_file manner lease blob = does (send_file blob manner) (λ result. asks (done lease) (λ reply. closes manner (of_sent manner result)))
+abbrev pub sends_file : ResponseMode → ℕ → Blob → Course
+sends_file mode lease blob = does (send_file blob mode) (λ result. asks (done lease) (λ reply. closes mode (of_sent mode result)))
 
--- what is answered to a reply; one that is answered by no words of its own, since a deed or a command follows it, counts as want of
--- memory
-abbrev pub said_of : Reply → Said
-said_of (file lease blob) = said.NoMemory
-said_of (text bytes) = said.Text bytes
-said_of (doc bytes digests) = said.Doc bytes digests
-said_of missed = said.NotThere
-said_of given_back = said.NoMemory
-said_of kind_refused = said.KindRefused
-said_of (draft n) = said.NoMemory
-said_of no_draft = said.NoDraft
-said_of (taken kept given) = said.Taken kept given
-said_of same = said.Same
-said_of relisted = said.Relisted
-said_of created = said.Created
-said_of not_there = said.NotThere
-said_of (differs sent kept) = said.Differs (hex_text sent) (hex_text kept)
-said_of agreed = said.Agreed
-said_of noted = said.Noted
-said_of dropped = said.NoMemory
-said_of no_session = said.NoSession
-said_of sessions_full = said.TooMany
-said_of (opened n) = said.Opened n
-said_of session_full = said.SessionFull
-said_of staged = said.Staged
-said_of (offends path kept given) = said.Offends path kept given
-said_of (missing_pom directory) = said.MissingPom directory
-said_of (ended result) = said.Ended result
-said_of (unlisted count) = said.NoMemory
-said_of (collected expired blobs) = said.NoMemory
-said_of (finds finding) = said.Found finding
-said_of spent = said.Spent
-said_of no_memory = said.NoMemory
-said_of store_fault = said.StoreFault
-said_of (fetches plan) = said.NoMemory
-said_of blocked = said.Blocked
-said_of negative = said.Negative
-said_of never_asked = said.NeverAsked
-said_of landed = said.NoMemory
+-- what is answered to a reply; one that is answered by no words of its own, since an I/O action or a command follows it, counts as
+-- out of memory
+abbrev pub response_of : Reply → Response
+response_of (file lease blob) = response.NoMemory
+response_of (text bytes) = response.Text bytes
+response_of (doc bytes digests) = response.Doc bytes digests
+response_of missed = response.NotThere
+response_of given_back = response.NoMemory
+response_of kind_refused = response.KindRefused
+response_of (draft n) = response.NoMemory
+response_of no_draft = response.NoDraft
+response_of (taken kept given) = response.Taken kept given
+response_of same = response.Same
+response_of relisted = response.Relisted
+response_of created = response.Created
+response_of not_there = response.NotThere
+response_of (differs sent kept) = response.Differs (hex_text sent) (hex_text kept)
+response_of agreed = response.Agreed
+response_of noted = response.Noted
+response_of dropped = response.NoMemory
+response_of no_session = response.NoSession
+response_of sessions_full = response.TooMany
+response_of (opened n) = response.Opened n
+response_of session_full = response.SessionFull
+response_of staged = response.Staged
+response_of (offends path kept given) = response.Offends path kept given
+response_of (missing_pom directory) = response.MissingPom directory
+response_of (ended result) = response.Ended result
+response_of (unlisted count) = response.NoMemory
+response_of (collected expired blobs) = response.NoMemory
+response_of (finds finding) = response.Found finding
+response_of spent = response.Spent
+response_of no_memory = response.NoMemory
+response_of store_fault = response.StoreFault
+response_of (fetches plan) = response.NoMemory
+response_of blocked = response.Blocked
+response_of negative = response.Negative
+response_of never_asked = response.NeverAsked
+response_of landed = response.NoMemory
 
--- the draft of a stored blob is used up, or was given up in that turn; behind any other reply it is to be given up
+-- the draft of a stored blob is used up, or was given up in that turn; after any other reply it is to be given up
 abbrev pub leaves_draft : Reply → Bool
 leaves_draft (file lease blob) = true
 leaves_draft (text bytes) = true
@@ -168,10 +168,10 @@ leaves_draft never_asked = true
 leaves_draft landed = true
 
 -- a reply is told
-abbrev pub tells : Manner → Reply → Course
-tells manner reply = answers manner (said_of reply)
+abbrev pub tells : ResponseMode → Reply → Course
+tells mode reply = answers mode (response_of reply)
 
--- ---- a look, behind which something may be fetched and looked for again
+-- ---- a look, after which something may be fetched and looked for again
 
 -- how many fetches may come at a repository of a sort
 abbrev pub rounds_of : Sort → ℕ
@@ -205,65 +205,65 @@ with_fault (verdict.Unasked of_group) None = verdict.Gone of_group
 with_fault (verdict.Gone of_group) None = verdict.Gone of_group
 
 -- what is answered where nothing is there, by what the fetches came to
-abbrev pub said_missed : Verdict → Said
-said_missed (verdict.Unasked of_group) = said.NotThere
-said_missed (verdict.Gone of_group) = if of_group then said.NotThere else said.RemoteGone
-said_missed (verdict.First why) = said.NotFetched why
+abbrev pub response_missed : Verdict → Response
+response_missed (verdict.Unasked of_group) = response.NotThere
+response_missed (verdict.Gone of_group) = if of_group then response.NotThere else response.RemoteGone
+response_missed (verdict.First why) = response.NotFetched why
 
 -- what follows a look, by what the fetches before it came to, and what follows a plan
-abbrev pub after_look : Manner → Verdict → (Plan → Course) → Reply → Course
-after_look manner so_far behind (file lease blob) = sends_file manner lease blob
-after_look manner so_far behind missed = answers manner (said_missed so_far)
-after_look manner so_far behind (fetches plan) = behind plan
-after_look manner so_far behind reply = tells manner reply
+abbrev pub after_look : ResponseMode → Verdict → (Plan → Course) → Reply → Course
+after_look mode so_far behind (file lease blob) = sends_file mode lease blob
+after_look mode so_far behind missed = answers mode (response_missed so_far)
+after_look mode so_far behind (fetches plan) = behind plan
+after_look mode so_far behind reply = tells mode reply
 
 -- once a fetch has landed its path is looked at again; where it has not, its draft is given up
-abbrev pub after_land : Manner → Option ℕ → Course → Reply → Course
-after_land manner held again landed = again
-after_land manner held again reply = gives_any_up held (tells manner reply)
+abbrev pub after_land : ResponseMode → Option ℕ → Course → Reply → Course
+after_land mode held again landed = again
+after_land mode held again reply = gives_any_up held (tells mode reply)
 
-abbrev pub lands : Manner → Plan → Course → Landing → Course
-lands manner plan again outcome = asks (land plan outcome) (after_land manner plan.draft again)
+abbrev pub lands : ResponseMode → Plan → Course → Landing → Course
+lands mode plan again outcome = asks (land plan outcome) (after_land mode plan.draft again)
 
 -- a fetched file that is stored lands, and the draft of another is given up
-abbrev pub after_store : Manner → Plan → Course → Kept → Course
-after_store manner plan again (Ok blob) = lands manner plan again (came.Got (got_file blob))
-after_store manner plan again (Err why) = gives_any_up plan.draft (closes manner (of_store why))
+abbrev pub after_store : ResponseMode → Plan → Course → Kept → Course
+after_store mode plan again (Ok blob) = lands mode plan again (came.Got (got_file blob))
+after_store mode plan again (Err why) = gives_any_up plan.draft (closes mode (of_store why))
 
 -- a file is fetched under a draft alone
-abbrev pub stores : Manner → Plan → Course → Checked → Option ℕ → Course
-stores manner plan again checked (Some n) = does (store_fetched n checked) (after_store manner plan again)
-stores manner plan again checked None = without_memory manner
+abbrev pub stores : ResponseMode → Plan → Course → Checked → Option ℕ → Course
+stores mode plan again checked (Some n) = does (store_fetched n checked) (after_store mode plan again)
+stores mode plan again checked None = without_memory mode
 
 -- a file is stored before it lands, and all else lands as it is
-abbrev pub fetched : Manner → Plan → Course → Came Content → Course
-fetched manner plan again (came.Got (content.File checked)) = stores manner plan again checked plan.draft
-fetched manner plan again (came.Got (content.Doc document)) = lands manner plan again (came.Got (got_doc document))
-fetched manner plan again came.Gone = lands manner plan again came.Gone
-fetched manner plan again (came.Refused code) = lands manner plan again (came.Refused code)
-fetched manner plan again came.NoChecksum = lands manner plan again came.NoChecksum
-fetched manner plan again (came.Differs said found) = lands manner plan again (came.Differs said found)
-fetched manner plan again came.TooLarge = lands manner plan again came.TooLarge
-fetched manner plan again (came.BadAnswer at) = lands manner plan again (came.BadAnswer at)
-fetched manner plan again (came.BadDocument at) = lands manner plan again (came.BadDocument at)
-fetched manner plan again came.Fault = lands manner plan again came.Fault
+abbrev pub fetched : ResponseMode → Plan → Course → Came Content → Course
+fetched mode plan again (came.Got (content.File checked)) = stores mode plan again checked plan.draft
+fetched mode plan again (came.Got (content.Doc document)) = lands mode plan again (came.Got (got_doc document))
+fetched mode plan again came.Gone = lands mode plan again came.Gone
+fetched mode plan again (came.Refused code) = lands mode plan again (came.Refused code)
+fetched mode plan again came.NoChecksum = lands mode plan again came.NoChecksum
+fetched mode plan again (came.Differs said found) = lands mode plan again (came.Differs said found)
+fetched mode plan again came.TooLarge = lands mode plan again came.TooLarge
+fetched mode plan again (came.BadAnswer at) = lands mode plan again (came.BadAnswer at)
+fetched mode plan again (came.BadDocument at) = lands mode plan again (came.BadDocument at)
+fetched mode plan again came.Fault = lands mode plan again came.Fault
 
 -- what follows a fetch: it lands, and then comes what follows the fault that it adds, if any
-abbrev pub after_fetch : Manner → Plan → (Option FetchFault → Course) → Fetch → Course
-after_fetch manner plan again None = gives_any_up plan.draft (without_memory manner)
-after_fetch manner plan again (Some outcome) = fetched manner plan (again (fetch_fault outcome)) outcome
+abbrev pub after_fetch : ResponseMode → Plan → (Option FetchFault → Course) → Fetch → Course
+after_fetch mode plan again None = gives_any_up plan.draft (without_memory mode)
+after_fetch mode plan again (Some outcome) = fetched mode plan (again (fetch_fault outcome)) outcome
 
--- A look, behind which so many fetches may come, each of a member that is not among those tried. No plan comes where none may.
-abbrev pub looks : Manner → ℕ → (repo path tried : List ℕ) → Verdict → Course
-looks manner zero repo path tried so_far =
-    asks (look repo path tried) (after_look manner so_far (λ plan. gives_any_up plan.draft (without_memory manner)))
-looks manner (suc n) repo path tried so_far =
+-- A look, after which so many fetches may come, each of a member that is not among those tried. No plan comes where none may.
+abbrev pub looks : ResponseMode → ℕ → (repo path tried : List ℕ) → Verdict → Course
+looks mode zero repo path tried so_far =
+    asks (look repo path tried) (after_look mode so_far (λ plan. gives_any_up plan.draft (without_memory mode)))
+looks mode (suc n) repo path tried so_far =
     asks (look repo path tried)
-    (after_look manner so_far (λ plan. does (fetch plan) (after_fetch manner plan (λ why. looks manner n repo path (tried ++ plan.member ∷ []) (with_fault so_far why)))))
+    (after_look mode so_far (λ plan. does (fetch plan) (after_fetch mode plan (λ why. looks mode n repo path (tried ++ plan.member ∷ []) (with_fault so_far why)))))
 
 -- what follows a file's body that was put or staged
-abbrev pub after_put : ℕ → Manner → Reply → Course
-after_put n manner reply = if leaves_draft reply then gives_up n (tells manner reply) else tells manner reply
+abbrev pub after_put : ℕ → ResponseMode → Reply → Course
+after_put n mode reply = if leaves_draft reply then gives_up n (tells mode reply) else tells mode reply
 
 -- the command by which a stored blob becomes the file at a path of a place, and what follows it
 abbrev pub puts_at : Place → (path : List ℕ) → ℕ → Blob → Command
@@ -271,83 +271,83 @@ puts_at (repository repo) path n blob = put repo path n blob
 puts_at (session number) path n blob = stage number path n blob
 
 -- a body that is not read ends the connection
-abbrev pub with_unread : ℕ → Manner → Manner
-with_unread length manner = record manner { close = nat_lt 0 length || manner.close }
+abbrev pub with_unread : ℕ → ResponseMode → ResponseMode
+with_unread length mode = record mode { close = nat_lt 0 length || mode.close }
 
--- so does one of which some is unread behind a fault
-abbrev pub behind_fault : (length : ℕ) → Took → Manner → Manner
-behind_fault length (took.BlobFault true) manner = with_unread length manner
-behind_fault length fault manner = manner
+-- so does one of which some is unread after a fault
+abbrev pub behind_fault : (length : ℕ) → Took → ResponseMode → ResponseMode
+behind_fault length (took.BlobFault true) mode = with_unread length mode
+behind_fault length fault mode = mode
 
 -- a file's body that is stored is put, and the draft of another is given up
-abbrev pub after_take : Place → (path : List ℕ) → (n length : ℕ) → Manner → Stored → Course
-after_take place path n length manner (Ok blob) = asks (puts_at place path n blob) (after_put n manner)
-after_take place path n length manner (Err fault) = gives_up n (closes (behind_fault length fault manner) (of_fault fault))
+abbrev pub after_take : Place → (path : List ℕ) → (n length : ℕ) → ResponseMode → Stored → Course
+after_take place path n length mode (Ok blob) = asks (puts_at place path n blob) (after_put n mode)
+after_take place path n length mode (Err fault) = gives_up n (closes (behind_fault length fault mode) (of_fault fault))
 
-abbrev pub after_may_put : Place → (path : List ℕ) → ℕ → Bool → Manner → Reply → Course
-after_may_put place path length expects manner (draft n) =
-    invites expects (gives_up n cut_off) (does (take_body n length) (after_take place path n length manner))
-after_may_put place path length expects manner reply = tells (with_unread length manner) reply
+abbrev pub after_may_put : Place → (path : List ℕ) → ℕ → Bool → ResponseMode → Reply → Course
+after_may_put place path length expects mode (draft n) =
+    invites expects (gives_up n cut_off) (does (take_body n length) (after_take place path n length mode))
+after_may_put place path length expects mode reply = tells (with_unread length mode) reply
 
 -- the digest that a side file says is compared; a text that says none is refused
-abbrev pub compares : Place → (path : List ℕ) → Manner → Option (List ℕ) → Course
-compares place path manner (Some digest) = asks (put_side place path digest) (tells manner)
-compares place path manner None = says said.NoDigest manner
+abbrev pub compares : Place → (path : List ℕ) → ResponseMode → Option (List ℕ) → Course
+compares place path mode (Some digest) = asks (put_side place path digest) (tells mode)
+compares place path mode None = says response.NoDigest mode
 
-abbrev pub after_side : Place → (path : List ℕ) → Side → Manner → Body → Course
-after_side place path side manner (Ok bytes) = compares place path manner (read_side side bytes)
-after_side place path side manner (Err fault) = closes manner (of_fault fault)
+abbrev pub after_side : Place → (path : List ℕ) → Side → ResponseMode → Body → Course
+after_side place path side mode (Ok bytes) = compares place path mode (read_side side bytes)
+after_side place path side mode (Err fault) = closes mode (of_fault fault)
 
 -- a document is told to the machine; a text that is none is refused by the place of its first fault
-abbrev pub notes : Place → (path : List ℕ) → Manner → Result Document ℕ → Course
-notes place path manner (Ok document) = asks (put_doc place path) (tells manner)
-notes place path manner (Err at) = says (said.NoDocument at) manner
+abbrev pub notes : Place → (path : List ℕ) → ResponseMode → Result Document ℕ → Course
+notes place path mode (Ok document) = asks (put_doc place path) (tells mode)
+notes place path mode (Err at) = says (response.NoDocument at) mode
 
-abbrev pub after_document : Place → (path : List ℕ) → Manner → Body → Course
-after_document place path manner (Ok bytes) = notes place path manner (reading bytes)
-after_document place path manner (Err fault) = closes manner (of_fault fault)
+abbrev pub after_document : Place → (path : List ℕ) → ResponseMode → Body → Course
+after_document place path mode (Ok bytes) = notes place path mode (reading bytes)
+after_document place path mode (Err fault) = closes mode (of_fault fault)
 
 -- the course by what a request asks for, which expects `100 Continue` before its body or not
-abbrev pub course_for : Manner → Bool → Intent → Course
-course_for manner expects (judged.reads repo path sort) = looks manner (rounds_of sort) repo path [] (verdict.Unasked (is_group sort))
-course_for manner expects (judged.puts_file place path length) =
-    asks (may_put place path) (after_may_put place path length expects manner)
-course_for manner expects (judged.puts_side place path side length) =
-    invites expects cut_off (does (read_body length) (after_side place path side manner))
-course_for manner expects (judged.puts_document place path length) =
-    invites expects cut_off (does (read_body length) (after_document place path manner))
-course_for manner expects (judged.asks question) = asks (ask question) (tells manner)
-course_for manner expects (judged.cleans repos) = does (clean_all repos) (λ pass. closes manner (of_pass pass))
-course_for manner expects (judged.opens repo) = asks (open_session repo) (tells manner)
-course_for manner expects (judged.commits n) = asks (commit n) (tells manner)
-course_for manner expects (judged.aborts n) = asks (abort n) (tells manner)
+abbrev pub course_for : ResponseMode → Bool → Intent → Course
+course_for mode expects (judged.reads repo path sort) = looks mode (rounds_of sort) repo path [] (verdict.Unasked (is_group sort))
+course_for mode expects (judged.puts_file place path length) =
+    asks (may_put place path) (after_may_put place path length expects mode)
+course_for mode expects (judged.puts_side place path side length) =
+    invites expects cut_off (does (read_body length) (after_side place path side mode))
+course_for mode expects (judged.puts_document place path length) =
+    invites expects cut_off (does (read_body length) (after_document place path mode))
+course_for mode expects (judged.asks question) = asks (ask question) (tells mode)
+course_for mode expects (judged.cleans repos) = does (clean_all repos) (λ pass. closes mode (of_pass pass))
+course_for mode expects (judged.opens repo) = asks (open_session repo) (tells mode)
+course_for mode expects (judged.commits n) = asks (commit n) (tells mode)
+course_for mode expects (judged.aborts n) = asks (abort n) (tells mode)
 
--- the manner of the answer to a request, which may be the last of its connection, and to one that is refused by its head
-abbrev pub manner_for : Judged → Bool → Manner
-manner_for request last = record { close = request.close; last = last; head_only = request.head_only }
+-- the mode of the answer to a request, which may be the last of its connection, and to one that is refused by its head
+abbrev pub mode_for : Judged → Bool → ResponseMode
+mode_for request last = record { close = request.close; last = last; head_only = request.head_only }
 
-abbrev pub manner_refused : Refused → Bool → Manner
-manner_refused refused last = record { close = refused.close; last = last; head_only = refused.head_only }
+abbrev pub mode_refused : Refused → Bool → ResponseMode
+mode_refused refused last = record { close = refused.close; last = last; head_only = refused.head_only }
 
 -- their courses
 abbrev pub course : Judged → Bool → Course
-course request last = course_for (manner_for request last) request.expects request.intent
+course request last = course_for (mode_for request last) request.expects request.intent
 
 abbrev pub refuses : Refused → Bool → Course
-refuses refused last = says (said.Refused refused.refusal) (manner_refused refused last)
+refuses refused last = says (response.Refused refused.refusal) (mode_refused refused last)
 
 abbrev pub course_of : Result Judged Refused → Bool → Course
 course_of (Ok request) last = course request last
 course_of (Err refused) last = refuses refused last
 
 -- what is no request head, or too long a one
-abbrev pub head_said : HeadFault → Said
-head_said Broken = said.BadHead
-head_said TooLong = said.HeadTooLong
+abbrev pub head_said : HeadFault → Response
+head_said Broken = response.BadHead
+head_said TooLong = response.HeadTooLong
 
 abbrev pub refuses_head : HeadFault → Course
 refuses_head fault = says (head_said fault) (at_end false)
 
--- memory was wanted for what a head says
+-- memory ran out for what a head says
 abbrev pub starves : Head → Course
 starves head = without_memory (at_end (is_head head))

@@ -1,8 +1,8 @@
 //! What comes of fetches.
 ghost use Rattle.std.specs.Prelude.{◌≡◌};
-ghost use Rattle.repo_course.specs.Course.{fetch_fault, said_missed, with_fault};
+ghost use Rattle.repo_course.specs.Course.{fetch_fault, response_missed, with_fault};
 
-use crate::said::Said;
+use crate::response::Response;
 use fetch_plan::Outcome;
 use mvn_digest::Digest;
 
@@ -69,12 +69,12 @@ pub(crate) fn with_fault(so_far: Verdict, why: Option<FetchFault>) -> Verdict
 }
 
 /// What is said where nothing is there.
-pub(crate) fn said_missed(so_far: Verdict) -> Said
-    ensures { result ≡ said_missed so_far }
+pub(crate) fn response_missed(so_far: Verdict) -> Response
+    ensures { result ≡ response_missed so_far }
 {
     match so_far {
-        Verdict::Unasked { .. } | Verdict::Gone { of_group: true } => Said::NotThere,
-        Verdict::Gone { of_group: false } => Said::RemoteGone,
-        Verdict::First(why) => Said::NotFetched(why),
+        Verdict::Unasked { .. } | Verdict::Gone { of_group: true } => Response::NotThere,
+        Verdict::Gone { of_group: false } => Response::RemoteGone,
+        Verdict::First(why) => Response::NotFetched(why),
     }
 }

@@ -3,14 +3,14 @@ ghost use Rattle.std.specs.Prelude.{◌≡◌, ◌<◌, ◌+◌, ◌*◌, ◌++�
 ghost use Rattle.repo_model.specs.Command.{look};
 ghost use Rattle.repo_model.specs.Shown.{outcome_map, shown_got};
 ghost use Rattle.repo_course.specs.declared.fetched.Verdict.{Verdict as AnyVerdict};
-ghost use Rattle.repo_course.specs.declared.manner.Manner.{Manner as AnyManner};
+ghost use Rattle.repo_course.specs.declared.mode.ResponseMode.{ResponseMode as AnyMode};
 ghost use Rattle.repo_course.specs.Acts.{IsAfterFetch, left_of, left_of_plan, looks_again, looks_next, rank_of, rounds_left, shown_kept};
 ghost use Rattle.repo_course.specs.Course.{after_look, after_store, asks, fetched, lands, looks};
 
 use crate::act::{Act, After, Again, Next};
 use crate::fetched::{FetchFault, Verdict, fetch_fault, with_fault};
-use crate::manner::Manner;
-use crate::said::Said;
+use crate::mode::ResponseMode;
+use crate::response::Response;
 use crate::steps::{give_any_up, no_memory};
 use fetch_plan::{Outcome, Plan};
 use outside::{BlobFault, Held, Parcel};
@@ -27,8 +27,8 @@ pub(crate) fn again_of(
     tried: &[u64],
     rounds: usize,
 ) -> Result<Option<Again>, AllocError>
-    ensures looks { IfOk result (λ again. (manner : AnyManner) (so_far : AnyVerdict) →
-        asks (look repo.now path.now tried.now) (after_look manner so_far (left_of_plan manner so_far again)) ≡ looks manner rounds repo.now path.now tried.now so_far) }
+    ensures looks { IfOk result (λ again. (mode : AnyMode) (so_far : AnyVerdict) →
+        asks (look repo.now path.now tried.now) (after_look mode so_far (left_of_plan mode so_far again)) ≡ looks mode rounds repo.now path.now tried.now so_far) }
     ensures rounds { IfOk result (λ again. rounds_left again ≡ rounds) }
 {
     if rounds == 0 {
@@ -46,7 +46,7 @@ pub(crate) fn again_of(
     Ok(Some(again))
 }
 
-/// The look behind a fetch of a member, by the fault that it adds, if any.
+/// The look after a fetch of a member, by the fault that it adds, if any.
 fn next_of(
     alloc: Global,
     again: Again,
@@ -54,7 +54,7 @@ fn next_of(
     so_far: Verdict,
     why: Option<FetchFault>,
 ) -> Result<Next, AllocError>
-    ensures left { IfOk result (λ next. (manner : AnyManner) → looks_next manner next ≡ looks_again manner so_far again member why) }
+    ensures left { IfOk result (λ next. (mode : AnyMode) → looks_next mode next ≡ looks_again mode so_far again member why) }
     ensures rounds { IfOk result (λ next. rounds_left next.again ≡ again.more) }
 {
     let Again {
@@ -77,7 +77,7 @@ fn next_of(
 
 /// What came of a fetch lands, and then its path is looked at again.
 fn land<H: Held>(plan: Plan, outcome: Outcome<Got<H>>, next: Next) -> Act<H>
-    ensures left { (manner : AnyManner) → left_of manner result ≡ lands manner plan (looks_next manner next) (outcome_map shown_got outcome) }
+    ensures left { (mode : AnyMode) → left_of mode result ≡ lands mode plan (looks_next mode next) (outcome_map shown_got outcome) }
     ensures rank { rank_of result ≡ 4 * rounds_left next.again + 6 }
 {
     let draft = plan.draft;
@@ -86,12 +86,12 @@ fn land<H: Held>(plan: Plan, outcome: Outcome<Got<H>>, next: Next) -> Act<H>
 
 /// A file is stored before it lands, and all else lands as it is.
 fn store_or_land<H: Held>(
-    manner: Manner,
+    mode: ResponseMode,
     plan: Plan,
     outcome: Outcome<Content>,
     next: Next,
 ) -> Act<H>
-    ensures left { left_of manner result ≡ fetched manner plan (looks_next manner next) outcome }
+    ensures left { left_of mode result ≡ fetched mode plan (looks_next mode next) outcome }
     ensures shorter { rank_of result < 4 * rounds_left next.again + 8 }
 {
     match outcome {
@@ -102,7 +102,7 @@ fn store_or_land<H: Held>(
                 checked,
                 next,
             },
-            None => no_memory(manner),
+            None => no_memory(mode),
         },
         Outcome::Got(Content::Doc(document)) => land(plan, Outcome::Got(Got::Doc(document)), next),
         Outcome::Gone => land(plan, Outcome::Gone, next),
@@ -116,43 +116,43 @@ fn store_or_land<H: Held>(
     }
 }
 
-/// What follows a fetch, of which nothing came where memory was wanted for it: a file is stored, and all else lands. Where memory is
-/// wanted, for the fetch or for the look behind it, the draft of the plan is given up.
+/// What follows a fetch, of which nothing came where memory ran out for it: a file is stored, and all else lands. Where memory is
+/// wanted, for the fetch or for the look after it, the draft of the plan is given up.
 pub fn after_fetch<H: Held>(
     alloc: Global,
-    manner: Manner,
+    mode: ResponseMode,
     plan: Plan,
     so_far: Verdict,
     again: Again,
     came: Option<Outcome<Content>>,
 ) -> Act<H>
-    ensures left { IsAfterFetch manner so_far again plan came (left_of manner result) }
+    ensures left { IsAfterFetch mode so_far again plan came (left_of mode result) }
     ensures shorter { rank_of result < 4 * again.more + 8 }
 {
     let outcome = match came {
         Some(outcome) => outcome,
-        None => return give_any_up(manner, plan.draft, Said::NoMemory),
+        None => return give_any_up(mode, plan.draft, Response::NoMemory),
     };
     let why = fetch_fault(&outcome);
     match next_of(alloc, again, plan.member, so_far, why) {
-        Ok(next) => store_or_land(manner, plan, outcome, next),
-        Err(_) => give_any_up(manner, plan.draft, Said::NoMemory),
+        Ok(next) => store_or_land(mode, plan, outcome, next),
+        Err(_) => give_any_up(mode, plan.draft, Response::NoMemory),
     }
 }
 
 /// What follows the store of a file that was fetched: it lands, or the draft of its plan is given up.
 pub fn after_store<H: Held>(
-    manner: Manner,
+    mode: ResponseMode,
     plan: Plan,
     next: Next,
     stored: Result<Parcel<H>, BlobFault>,
 ) -> Act<H>
-    ensures left { left_of manner result ≡ after_store manner plan (looks_next manner next) (shown_kept stored) }
+    ensures left { left_of mode result ≡ after_store mode plan (looks_next mode next) (shown_kept stored) }
     ensures shorter { rank_of result < 4 * rounds_left next.again + 7 }
 {
     match stored {
         Ok(parcel) => land(plan, Outcome::Got(Got::File(parcel)), next),
-        Err(BlobFault::Failed) => give_any_up(manner, plan.draft, Said::BlobFault),
-        Err(BlobFault::NoMemory) => give_any_up(manner, plan.draft, Said::NoMemory),
+        Err(BlobFault::Failed) => give_any_up(mode, plan.draft, Response::BlobFault),
+        Err(BlobFault::NoMemory) => give_any_up(mode, plan.draft, Response::NoMemory),
     }
 }

@@ -4,15 +4,15 @@ ghost use Rattle.mvn_digest.specs.Hex.{hex_text};
 ghost use Rattle.mvn_digest.specs.Sides.{bytes_in};
 ghost use Rattle.repo_model.specs.Command.{done, drop_draft};
 ghost use Rattle.repo_model.specs.Shown.{shown_place, shown_reply};
-ghost use Rattle.repo_course.specs.declared.manner.Manner.{Manner as AnyManner};
+ghost use Rattle.repo_course.specs.declared.mode.ResponseMode.{ResponseMode as AnyMode};
 ghost use Rattle.repo_course.specs.Acts.{after_reply, left_of, left_of_body, left_of_plan, left_uninvited, looks_next, rank_after, rank_of, rounds_left};
-ghost use Rattle.repo_course.specs.Course.{after_land, after_look, after_may_put, after_put, answers, asks, closes, gives_any_up, invites, leaves_draft, of_pass, of_sent, said_of, says, tells, without_memory};
+ghost use Rattle.repo_course.specs.Course.{after_land, after_look, after_may_put, after_put, answers, asks, closes, gives_any_up, invites, leaves_draft, of_pass, of_sent, response_of, says, tells, without_memory};
 
 use crate::act::{Act, After, Again, Coming, FileBody, Next};
-use crate::fetched::{Verdict, said_missed};
-use crate::manner::Manner;
+use crate::fetched::{Verdict, response_missed};
+use crate::mode::ResponseMode;
 use crate::outcomes::{CleanFault, Cleaned, End, Sent, Took};
-use crate::said::Said;
+use crate::response::Response;
 use fetch_plan::Plan;
 use mvn_coords::Side;
 use mvn_digest::{
@@ -22,39 +22,39 @@ use outside::{Held, Parcel};
 use repo_model::{Command, Place, Reply};
 use texts::Text;
 
-/// An answer in a manner.
-pub(crate) fn say<H: Held>(said: Said, manner: Manner) -> Act<H>
-    ensures left { (any : AnyManner) → left_of any result ≡ says said manner }
+/// An answer in a mode.
+pub(crate) fn say<H: Held>(said: Response, mode: ResponseMode) -> Act<H>
+    ensures left { (any : AnyMode) → left_of any result ≡ says said mode }
     ensures rank { rank_of result ≡ 0 }
 {
-    Act::Say { said, manner }
+    Act::Say { said, mode }
 }
 
-/// The answer where memory was wanted.
-pub(crate) fn no_memory<H: Held>(manner: Manner) -> Act<H>
-    ensures left { (any : AnyManner) → left_of any result ≡ without_memory manner }
+/// The answer where memory ran out.
+pub(crate) fn no_memory<H: Held>(mode: ResponseMode) -> Act<H>
+    ensures left { (any : AnyMode) → left_of any result ≡ without_memory mode }
     ensures rank { rank_of result ≡ 0 }
 {
     Act::Say {
-        said: Said::NoMemory,
-        manner: Manner::at_end(manner.head_only),
+        said: Response::NoMemory,
+        mode: ResponseMode::at_end(mode.head_only),
     }
 }
 
-/// An answer; where memory was wanted it ends the connection.
-pub(crate) fn answer<H: Held>(said: Said, manner: Manner) -> Act<H>
-    ensures left { (any : AnyManner) → left_of any result ≡ answers manner said }
+/// An answer; where memory ran out it ends the connection.
+pub(crate) fn answer<H: Held>(said: Response, mode: ResponseMode) -> Act<H>
+    ensures left { (any : AnyMode) → left_of any result ≡ answers mode said }
     ensures rank { rank_of result ≡ 0 }
 {
     match said {
-        Said::NoMemory => no_memory(manner),
-        said => say(said, manner),
+        Response::NoMemory => no_memory(mode),
+        said => say(said, mode),
     }
 }
 
 /// A body that is read, and before it `100 Continue` where the client waits for it.
 pub(crate) fn invite<H: Held>(expects: bool, coming: Coming) -> Act<H>
-    ensures left { (any : AnyManner) → left_of any result ≡ invites expects (left_uninvited coming) (left_of_body any coming) }
+    ensures left { (any : AnyMode) → left_of any result ≡ invites expects (left_uninvited coming) (left_of_body any coming) }
     ensures rank { rank_of result < 7 }
 {
     if expects {
@@ -68,20 +68,20 @@ pub(crate) fn invite<H: Held>(expects: bool, coming: Coming) -> Act<H>
 
 /// A draft is given up, and then this follows.
 pub(crate) fn give_up<H: Held>(draft: u64, then: After) -> Act<H>
-    ensures left { (any : AnyManner) → left_of any result ≡ asks (drop_draft draft) (after_reply any then) }
+    ensures left { (any : AnyMode) → left_of any result ≡ asks (drop_draft draft) (after_reply any then) }
     ensures rank { rank_of result ≡ rank_after then + 1 }
 {
     Act::Ask(Command::Drop { draft }, then)
 }
 
 /// A draft is given up, where there is one, and then this is answered.
-pub(crate) fn give_any_up<H: Held>(manner: Manner, draft: Option<u64>, said: Said) -> Act<H>
-    ensures left { left_of manner result ≡ gives_any_up draft (answers manner said) }
+pub(crate) fn give_any_up<H: Held>(mode: ResponseMode, draft: Option<u64>, said: Response) -> Act<H>
+    ensures left { left_of mode result ≡ gives_any_up draft (answers mode said) }
     ensures rank { rank_of result < 3 }
 {
     match draft {
         Some(draft) => give_up(draft, After::Say(said)),
-        None => answer(said, manner),
+        None => answer(said, mode),
     }
 }
 
@@ -104,52 +104,52 @@ pub(crate) fn digest_text(digest: Digest) -> SideText
 }
 
 /// What is answered to a reply.
-fn said_of<H: Held>(reply: Reply<H>) -> Said
-    ensures { result ≡ said_of (shown_reply reply) }
+fn response_of<H: Held>(reply: Reply<H>) -> Response
+    ensures { result ≡ response_of (shown_reply reply) }
 {
     match reply {
-        Reply::Text(text) => Said::Text(text),
-        Reply::Doc { text, digests } => Said::Doc { text, digests },
-        Reply::Missed => Said::NotThere,
-        Reply::KindRefused => Said::KindRefused,
-        Reply::NoDraft => Said::NoDraft,
-        Reply::Taken { kept, sent } => Said::Taken { kept, sent },
-        Reply::Same => Said::Same,
-        Reply::Relisted => Said::Relisted,
-        Reply::Created => Said::Created,
-        Reply::NotThere => Said::NotThere,
-        Reply::Differs { said, kept } => Said::Differs {
+        Reply::Text(text) => Response::Text(text),
+        Reply::Doc { text, digests } => Response::Doc { text, digests },
+        Reply::Missed => Response::NotThere,
+        Reply::KindRefused => Response::KindRefused,
+        Reply::NoDraft => Response::NoDraft,
+        Reply::Taken { kept, sent } => Response::Taken { kept, sent },
+        Reply::Same => Response::Same,
+        Reply::Relisted => Response::Relisted,
+        Reply::Created => Response::Created,
+        Reply::NotThere => Response::NotThere,
+        Reply::Differs { said, kept } => Response::Differs {
             said: digest_text(said),
             kept: digest_text(kept),
         },
-        Reply::Agreed => Said::Agreed,
-        Reply::Noted => Said::Noted,
-        Reply::NoSession => Said::NoSession,
-        Reply::TooMany => Said::TooMany,
-        Reply::Opened(number) => Said::Opened(number),
-        Reply::SessionFull => Said::SessionFull,
-        Reply::Staged => Said::Staged,
-        Reply::Offends { path, kept, sent } => Said::Offends { path, kept, sent },
-        Reply::MissingPom { dir } => Said::MissingPom { dir },
-        Reply::Ended(how) => Said::Ended(how),
-        Reply::Found(finding) => Said::Found(finding),
-        Reply::Spent => Said::Spent,
-        Reply::StoreFault => Said::StoreFault,
+        Reply::Agreed => Response::Agreed,
+        Reply::Noted => Response::Noted,
+        Reply::NoSession => Response::NoSession,
+        Reply::TooMany => Response::TooMany,
+        Reply::Opened(number) => Response::Opened(number),
+        Reply::SessionFull => Response::SessionFull,
+        Reply::Staged => Response::Staged,
+        Reply::Offends { path, kept, sent } => Response::Offends { path, kept, sent },
+        Reply::MissingPom { dir } => Response::MissingPom { dir },
+        Reply::Ended(how) => Response::Ended(how),
+        Reply::Found(finding) => Response::Found(finding),
+        Reply::Spent => Response::Spent,
+        Reply::StoreFault => Response::StoreFault,
         Reply::File { .. }
         | Reply::Done
         | Reply::Draft(_)
         | Reply::Dropped
         | Reply::Unlisted(_)
         | Reply::Collected { .. }
-        | Reply::NoMemory => Said::NoMemory,
-        Reply::Blocked => Said::Blocked,
-        Reply::Negative => Said::Negative,
-        Reply::Never => Said::NeverAsked,
-        Reply::Fetch(_) | Reply::Landed => Said::NoMemory,
+        | Reply::NoMemory => Response::NoMemory,
+        Reply::Blocked => Response::Blocked,
+        Reply::Negative => Response::Negative,
+        Reply::Never => Response::NeverAsked,
+        Reply::Fetch(_) | Reply::Landed => Response::NoMemory,
     }
 }
 
-/// Whether the draft of a stored blob is to be given up behind a reply.
+/// Whether the draft of a stored blob is to be given up after a reply.
 fn leaves_draft<H: Held>(reply: &Reply<H>) -> bool
     ensures { result ≡ leaves_draft (shown_reply reply.now) }
 {
@@ -190,16 +190,21 @@ fn leaves_draft<H: Held>(reply: &Reply<H>) -> bool
 }
 
 /// A reply is told.
-fn tell<H: Held>(manner: Manner, reply: Reply<H>) -> Act<H>
-    ensures left { (any : AnyManner) → left_of any result ≡ tells manner (shown_reply reply) }
+fn tell<H: Held>(mode: ResponseMode, reply: Reply<H>) -> Act<H>
+    ensures left { (any : AnyMode) → left_of any result ≡ tells mode (shown_reply reply) }
     ensures rank { rank_of result ≡ 0 }
 {
-    answer(said_of(reply), manner)
+    answer(response_of(reply), mode)
 }
 
 /// What follows a plan: it is fetched, where a fetch may come.
-fn after_plan<H: Held>(manner: Manner, so_far: Verdict, again: Option<Again>, plan: Plan) -> Act<H>
-    ensures left { left_of manner result ≡ left_of_plan manner so_far again plan }
+fn after_plan<H: Held>(
+    mode: ResponseMode,
+    so_far: Verdict,
+    again: Option<Again>,
+    plan: Plan,
+) -> Act<H>
+    ensures left { left_of mode result ≡ left_of_plan mode so_far again plan }
     ensures shorter { rank_of result < 4 * rounds_left again + 5 }
 {
     match again {
@@ -208,30 +213,30 @@ fn after_plan<H: Held>(manner: Manner, so_far: Verdict, again: Option<Again>, pl
             so_far,
             again,
         },
-        None => give_any_up(manner, plan.draft, Said::NoMemory),
+        None => give_any_up(mode, plan.draft, Response::NoMemory),
     }
 }
 
 fn after_look<H: Held>(
-    manner: Manner,
+    mode: ResponseMode,
     so_far: Verdict,
     again: Option<Again>,
     reply: Reply<H>,
 ) -> Act<H>
-    ensures left { left_of manner result ≡ after_look manner so_far (left_of_plan manner so_far again) (shown_reply reply) }
+    ensures left { left_of mode result ≡ after_look mode so_far (left_of_plan mode so_far again) (shown_reply reply) }
     ensures shorter { rank_of result < 4 * rounds_left again + 5 }
 {
     match reply {
         Reply::File { lease, parcel } => Act::Send { lease, parcel },
-        Reply::Missed => answer(said_missed(so_far), manner),
-        Reply::Fetch(plan) => after_plan(manner, so_far, again, plan),
-        reply => tell(manner, reply),
+        Reply::Missed => answer(response_missed(so_far), mode),
+        Reply::Fetch(plan) => after_plan(mode, so_far, again, plan),
+        reply => tell(mode, reply),
     }
 }
 
 /// The next look.
 fn look_again<H: Held>(next: Next) -> Act<H>
-    ensures left { (manner : AnyManner) → left_of manner result ≡ looks_next manner next }
+    ensures left { (mode : AnyMode) → left_of mode result ≡ looks_next mode next }
     ensures rank { rank_of result ≡ 4 * rounds_left next.again + 5 }
 {
     let Next {
@@ -247,41 +252,46 @@ fn look_again<H: Held>(next: Next) -> Act<H>
     )
 }
 
-fn after_land<H: Held>(manner: Manner, draft: Option<u64>, next: Next, reply: Reply<H>) -> Act<H>
-    ensures left { left_of manner result ≡ after_land manner draft (looks_next manner next) (shown_reply reply) }
+fn after_land<H: Held>(
+    mode: ResponseMode,
+    draft: Option<u64>,
+    next: Next,
+    reply: Reply<H>,
+) -> Act<H>
+    ensures left { left_of mode result ≡ after_land mode draft (looks_next mode next) (shown_reply reply) }
     ensures shorter { rank_of result < 4 * rounds_left next.again + 6 }
 {
     match reply {
         Reply::Landed => look_again(next),
-        reply => give_any_up(manner, draft, said_of(reply)),
+        reply => give_any_up(mode, draft, response_of(reply)),
     }
 }
 
-fn after_done<H: Held>(manner: Manner, sent: Sent) -> Act<H>
-    ensures left { left_of manner result ≡ closes manner (of_sent manner sent) }
+fn after_done<H: Held>(mode: ResponseMode, sent: Sent) -> Act<H>
+    ensures left { left_of mode result ≡ closes mode (of_sent mode sent) }
     ensures rank { rank_of result ≡ 0 }
 {
     match sent {
-        Sent::Whole => Act::Stop(manner.end()),
-        Sent::BlobFault => say(Said::BlobFault, manner),
+        Sent::Whole => Act::Stop(mode.end()),
+        Sent::BlobFault => say(Response::BlobFault, mode),
         Sent::BlobDiffers { recorded, found } => {
-            say(Said::BlobDiffers { recorded, found }, manner)
+            say(Response::BlobDiffers { recorded, found }, mode)
         }
         Sent::CutFault | Sent::CutDiffers { .. } => Act::Stop(Some(End::Closed)),
         Sent::SinkFault => Act::Stop(Some(End::SinkFault)),
-        Sent::NoMemory => no_memory(manner),
+        Sent::NoMemory => no_memory(mode),
     }
 }
 
 fn after_may_put<H: Held>(
-    manner: Manner,
+    mode: ResponseMode,
     place: Place,
     path: Text,
     length: u64,
     expects: bool,
     reply: Reply<H>,
 ) -> Act<H>
-    ensures left { left_of manner result ≡ after_may_put (shown_place place) path length expects manner (shown_reply reply) }
+    ensures left { left_of mode result ≡ after_may_put (shown_place place) path length expects mode (shown_reply reply) }
     ensures shorter { rank_of result < 7 }
 {
     match reply {
@@ -294,60 +304,60 @@ fn after_may_put<H: Held>(
             };
             invite(expects, Coming::File(body))
         }
-        reply => tell(manner.with_unread(length), reply),
+        reply => tell(mode.with_unread(length), reply),
     }
 }
 
-fn after_put<H: Held>(manner: Manner, draft: u64, reply: Reply<H>) -> Act<H>
-    ensures left { left_of manner result ≡ after_put draft manner (shown_reply reply) }
+fn after_put<H: Held>(mode: ResponseMode, draft: u64, reply: Reply<H>) -> Act<H>
+    ensures left { left_of mode result ≡ after_put draft mode (shown_reply reply) }
     ensures shorter { rank_of result < 3 }
 {
     if leaves_draft(&reply) {
-        return give_up(draft, After::Say(said_of(reply)));
+        return give_up(draft, After::Say(response_of(reply)));
     }
-    tell(manner, reply)
+    tell(mode, reply)
 }
 
 /// What follows the reply that a course waited for.
-pub fn after_reply<H: Held>(manner: Manner, after: After, reply: Reply<H>) -> Act<H>
-    ensures left { left_of manner result ≡ after_reply manner after (shown_reply reply) }
+pub fn after_reply<H: Held>(mode: ResponseMode, after: After, reply: Reply<H>) -> Act<H>
+    ensures left { left_of mode result ≡ after_reply mode after (shown_reply reply) }
     ensures shorter { rank_of result < rank_after after + 1 }
 {
     match after {
-        After::Look { so_far, again } => after_look(manner, so_far, again, reply),
-        After::Done(sent) => after_done(manner, sent),
+        After::Look { so_far, again } => after_look(mode, so_far, again, reply),
+        After::Done(sent) => after_done(mode, sent),
         After::MayPut {
             place,
             path,
             length,
             expects,
-        } => after_may_put(manner, place, path, length, expects, reply),
-        After::Put { draft } => after_put(manner, draft, reply),
-        After::Tell => tell(manner, reply),
-        After::Say(said) => answer(said, manner),
-        After::SayUnread { said, length } => answer(said, manner.with_unread(length)),
+        } => after_may_put(mode, place, path, length, expects, reply),
+        After::Put { draft } => after_put(mode, draft, reply),
+        After::Tell => tell(mode, reply),
+        After::Say(said) => answer(said, mode),
+        After::SayUnread { said, length } => answer(said, mode.with_unread(length)),
         After::Stop(end) => Act::Stop(Some(end)),
-        After::Land { draft, next } => after_land(manner, draft, next, reply),
+        After::Land { draft, next } => after_land(mode, draft, next, reply),
     }
 }
 
 /// What follows the sending of a file: its lease is given back, whatever came of it.
-pub fn after_send<H: Held>(manner: Manner, lease: u64, sent: Sent) -> Act<H>
-    ensures left { left_of manner result ≡ asks (done lease) (λ reply. closes manner (of_sent manner sent)) }
+pub fn after_send<H: Held>(mode: ResponseMode, lease: u64, sent: Sent) -> Act<H>
+    ensures left { left_of mode result ≡ asks (done lease) (λ reply. closes mode (of_sent mode sent)) }
     ensures shorter { rank_of result < 3 }
 {
     Act::Ask(Command::Done { lease }, After::Done(sent))
 }
 
 /// What follows a pass over the repositories: the answer that says what it has done, or why it ended.
-pub fn after_clean<H: Held>(manner: Manner, pass: Result<Cleaned, CleanFault>) -> Act<H>
-    ensures left { left_of manner result ≡ closes manner (of_pass pass) }
+pub fn after_clean<H: Held>(mode: ResponseMode, pass: Result<Cleaned, CleanFault>) -> Act<H>
+    ensures left { left_of mode result ≡ closes mode (of_pass pass) }
     ensures shorter { rank_of result < 1 }
 {
     match pass {
-        Ok(Cleaned { unlisted, removed }) => say(Said::Cleaned { unlisted, removed }, manner),
-        Err(CleanFault::StoreFault) => say(Said::StoreFault, manner),
-        Err(CleanFault::BlobFault) => say(Said::BlobFault, manner),
-        Err(CleanFault::NoMemory) => no_memory(manner),
+        Ok(Cleaned { unlisted, removed }) => say(Response::Cleaned { unlisted, removed }, mode),
+        Err(CleanFault::StoreFault) => say(Response::StoreFault, mode),
+        Err(CleanFault::BlobFault) => say(Response::BlobFault, mode),
+        Err(CleanFault::NoMemory) => no_memory(mode),
     }
 }

@@ -1,4 +1,4 @@
--- What replies say: a command gets one of its own, refusals change nothing, and all is determined but for want of memory and failing records.
+-- What replies say: a command gets one of its own, refusals change nothing, and all is determined apart from running out of memory and failing records.
 use native.Mathlib.Omega.{arith}
 use Rattle.std.proofs.Common.{◌≡◌, ℕ, true, false, ◌&&◌, List, [], ◌∷◌, ◌++◌, map, Option, Some, None, refl, sym, ◌∙◌, ap, subst, eqb-true, ◌⊎◌, inl, inr}
 use Rattle.std.specs.Prelude.{◌==◌, ◌↔◌, ◌<◌, IsTrue, nat_le, count_by, if◌then◌else◌}
@@ -12,7 +12,7 @@ use Rattle.repo_model.specs.Fetched.{Landing, got_file, got_doc}
 use Rattle.repo_model.specs.Settings.{Settings, ProxyRule}
 use Rattle.repo_model.specs.Paths.{takes}
 use Rattle.repo_model.specs.State.{State, hosted_of, open_of, row_at, files_of, is_open, number_end, most_sessions}
-use Rattle.repo_model.specs.Effect.{draws, discards, lends, opens, ends, marks_missing, clears_mark, with_effects}
+use Rattle.repo_model.specs.Effect.{draws, discards, lends, opens, ends, adds_negative, clears_negative, with_effects}
 use Rattle.repo_model.specs.Command.{Command, look, done, may_put, open_session, is_fit}
 use Rattle.repo_model.specs.Reply.{Reply, file, given_back, draft, opened, spent, kind_refused, no_session, session_full, sessions_full, no_memory, store_fault, is_free, can_get, takes_memory, fetches}
 use Rattle.repo_model.specs.Turn.{Turn, turn, says, draws_or_spent, draws_draft, in_repository, may_put_in, has_room, Seen, is_file, shows, gives_draft_up, lands_file, lands, look_at, is_to_fetch, plan_of, file_limit}
@@ -46,12 +46,12 @@ module _ (settings : Settings) (s : State) (now : ℕ) where
 
   file-hosted : (plan : Plan) (blob : Blob) (found : Option Row) (u : State) → (with_effects u (lands_file plan blob now found)).hosted ≡ u.hosted
   file-hosted plan blob None u = refl
-  file-hosted plan blob (Some row) u = draft-hosted plan.draft (with_effects u (clears_mark plan.proxy plan.path ∷ []))
+  file-hosted plan blob (Some row) u = draft-hosted plan.draft (with_effects u (clears_negative plan.proxy plan.path ∷ []))
 
   lands-hosted : (plan : Plan) (outcome : Landing) (u : State) → (with_effects u (lands s now plan outcome)).hosted ≡ u.hosted
   lands-hosted plan (Got (got_file blob)) u = file-hosted plan blob (row_at plan.path (files_of plan.proxy s)) u
   lands-hosted plan (Got (got_doc document)) u = refl
-  lands-hosted plan Gone u = draft-hosted plan.draft (with_effects u (marks_missing plan.proxy plan.path now ∷ []))
+  lands-hosted plan Gone u = draft-hosted plan.draft (with_effects u (adds_negative plan.proxy plan.path now ∷ []))
   lands-hosted plan outcome u = draft-hosted plan.draft u
 
   case-rows : (c : Command) (t : Turn) → Case settings s now c t → may_change_rows t.reply ≡ false → (u : State) → (with_effects u t.effects).hosted ≡ u.hosted

@@ -10,7 +10,7 @@ use Rattle.std.specs.Cmp.Lexicographic.{slice_cmp, nat_list_cmp_total}
 use Rattle.std.proofs.lemmas.Cmp.{tied_itself}
 use Rattle.repo_model.specs.Data.{Row, Hosted, Proxy}
 use Rattle.repo_model.specs.State.{State, change_where, change_first, is_repository, is_proxy, is_row, row_at, rows_of}
-use Rattle.repo_model.specs.Effect.{Effect, creates, delivers, relists, fades, expires, caches, keeps_doc, marks_missing, clears_mark, with_row, new_row, list_again, fade, without_row, proxy_after, with_effect}
+use Rattle.repo_model.specs.Effect.{Effect, creates, delivers, relists, fades, expires, caches, keeps_doc, adds_negative, clears_negative, with_row, new_row, list_again, fade, without_row, proxy_after, with_effect}
 use Rattle.repo_model.specs.May.{May}
 use Rattle.repo_laws.specs.Sound.{IsBelow, AreByPath}
 use Rattle.repo_laws.proofs.Files.{proxies-keep}
@@ -88,10 +88,10 @@ files-kept grace now s (caches id path blob moment) may all =
     all
 files-kept grace now s (keeps_doc id path document moment) may all =
     proxies-keep (λ (p : Proxy). AreByPath p.files) (is_proxy id) (proxy_after (keeps_doc id path document moment)) s.proxies (λ p found order. order) all
-files-kept grace now s (marks_missing id path moment) may all =
-    proxies-keep (λ (p : Proxy). AreByPath p.files) (is_proxy id) (proxy_after (marks_missing id path moment)) s.proxies (λ p found order. order) all
-files-kept grace now s (clears_mark id path) may all =
-    proxies-keep (λ (p : Proxy). AreByPath p.files) (is_proxy id) (proxy_after (clears_mark id path)) s.proxies (λ p found order. order) all
+files-kept grace now s (adds_negative id path moment) may all =
+    proxies-keep (λ (p : Proxy). AreByPath p.files) (is_proxy id) (proxy_after (adds_negative id path moment)) s.proxies (λ p found order. order) all
+files-kept grace now s (clears_negative id path) may all =
+    proxies-keep (λ (p : Proxy). AreByPath p.files) (is_proxy id) (proxy_after (clears_negative id path)) s.proxies (λ p found order. order) all
 files-kept grace now s e may all = all
 
 -- the rows of each repository lie apart

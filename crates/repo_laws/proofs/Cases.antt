@@ -47,7 +47,7 @@ pub data Case (settings : Settings) (s : State) (now : ℕ) : Command → Turn �
   plans_document : (repo path tried : List ℕ) (member : ℕ) (rule : ProxyRule) (at : List ℕ) → look_at settings s now repo tried path ≡ is_to_fetch member rule at false
       → Case settings s now (look repo path tried) (says (fetches (plan_of member rule at None longest_document)))
   is_not_let_through : (repo path tried : List ℕ) → Case settings s now (look repo path tried) (says blocked)
-  is_marked_missing : (repo path tried : List ℕ) → Case settings s now (look repo path tried) (says negative)
+  is_known_missing : (repo path tried : List ℕ) → Case settings s now (look repo path tried) (says negative)
   is_never_asked : (repo path tried : List ℕ) → Case settings s now (look repo path tried) (says never_asked)
   takes_back : (lease : ℕ) → Case settings s now (done lease) (does given_back (returns lease ∷ []))
   gives_draft : (place : Place) (path : List ℕ) → (s.yard.next_draft == number_end) ≡ false
@@ -124,7 +124,7 @@ module _ (settings : Settings) (s : State) (now : ℕ) where
       (λ last. no_plan repo path tried member rule at last is) (λ more. plans_file repo path tried member rule at more is)
   look-case repo path tried (is_to_fetch member rule at false) is = plans_document repo path tried member rule at is
   look-case repo path tried is_blocked is = is_not_let_through repo path tried
-  look-case repo path tried is_negative is = is_marked_missing repo path tried
+  look-case repo path tried is_negative is = is_known_missing repo path tried
   look-case repo path tried is_never is = is_never_asked repo path tried
 
   draft-case : (place : Place) (path : List ℕ) → Is (may_put place path) (draws_draft s.yard.next_draft)

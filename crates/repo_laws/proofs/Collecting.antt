@@ -102,7 +102,7 @@ module _ (settings : Settings) (apart : AreNamedApart settings.hosted) (s : Stat
   pub collect-gives : (expired : ℕ) (blobs : List ℕ) → Fits settings s e → e.reply ≡ collected expired blobs → IsFirstGarbage t.yard blobs
   collect-gives expired blobs fits is_reply = subst (IsFirstGarbage t.yard) (sym (given-so expired blobs fits is_reply).1) cleared-garbage
 
-  -- the yard behind it
+  -- the yard after it
   yard-after : (expired : ℕ) (blobs : List ℕ) → Fits settings s e → e.reply ≡ collected expired blobs → (after settings s e).yard ≡ (with_effect t (forgets blobs)).yard
   yard-after expired blobs fits is_reply =
       let given = given-so expired blobs fits is_reply in

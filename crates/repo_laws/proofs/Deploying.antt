@@ -1,4 +1,4 @@
--- Behind a commit that is done each staged file is visible with its content, and so is the pom of each release's version directory.
+-- After a commit that is done each staged file is visible with its content, and so is the pom of each release's version directory.
 use Rattle.std.proofs.Common.{◌≡◌, ℕ, true, false, ◌&&◌, ◌||◌, inl, inr, List, [], ◌∷◌, ◌++◌, length, Option, Some, None, refl, sym, ◌∙◌, ap, subst}
 use Rattle.std.specs.Prelude.{fold, find, if◌then◌else◌, bytes_eq, IsTrue}
 use Rattle.std.specs.List.{AllByRecursion, list_any, flat_map}
@@ -64,7 +64,7 @@ module _ (grace now : ℕ) (one : Session) (rows : List Row) where
         | false ↦ λ is. (row, change-elsewhere path at (list_again now) (λ r. refl) (λ here. false≢true (sym is ∙ ap (λ p. bytes_eq p path) here ∙ is_itself path)) (there_rows t) ∙ found, phase, same)
       ] refl)
 
-  -- the state behind what is done for one file: the file is visible, and what was visible is
+  -- the state after what is done for one file: the file is visible, and what was visible is
   pub record Behind (t : State) (file : Staged) (files : List Staged) (found : Option Row) : Type 0 where
     pub state : State
     pub ready : Ready grace now one rows state files files
@@ -123,7 +123,7 @@ module _ (grace now : ℕ) (one : Session) (rows : List Row) where
   abbrev all_of : List Staged → List Effect
   all_of files = flat_map (λ (file : Staged). deliver_at one now file (row_at file.path rows)) files
 
-  -- behind all of them
+  -- after all of them
   keeps-all : (files : List Staged) (t : State) (result : SessionResult) → AreApart files → Ready grace now one rows t files files → AllByRecursion (OffendsNot rows) files
       → (path : List ℕ) (print : Print) → IsVisibleAs path print (there_rows t) → IsVisibleAs path print (there_rows (with_effects t (all_of files ++ ends one.number result ∷ [])))
   keeps-all [] t result apart ready quiet path print visible = visible

@@ -10,7 +10,7 @@ use Rattle.repo_model.specs.Data.{Blob, Row}
 use Rattle.repo_model.specs.Settings.{Settings}
 use Rattle.repo_model.specs.Paths.{takes}
 use Rattle.repo_model.specs.State.{State, rows_of, is_among, row_at, files_of}
-use Rattle.repo_model.specs.Effect.{Effect, draws, drops, creates, stages, relists, without_number, with_effect, with_effects, caches, clears_mark, marks_missing}
+use Rattle.repo_model.specs.Effect.{Effect, draws, drops, creates, stages, relists, without_number, with_effect, with_effects, caches, clears_negative, adds_negative}
 use Rattle.repo_model.specs.Purge.{expire_all}
 use Rattle.repo_model.specs.Command.{Command, put, stage, drop_draft, land, meets, is_fit, is_parcel, rule_of, is_file_path, is_landing, proxy_rule_of}
 use Rattle.repo_model.specs.Reply.{draft, no_draft, dropped, is_free, takes_memory, Reply, fetches}
@@ -94,12 +94,12 @@ module _ (settings : Settings) (s : State) (now : ℕ) (t : State) (same : t.yar
 
   file-gone : (plan : Plan) (blob : Blob) (n : ℕ) (found : Option Row) → plan.draft ≡ Some n → blob.number ≡ n → Gone n t (lands_file plan blob now found)
   file-gone plan blob n None is numbered = subst (λ k. count_of k (without_number blob.number t.yard.drafts) ≡ 0) numbered (count-without_number blob.number t.yard.drafts)
-  file-gone plan blob n (Some row) is numbered = up-gone (with_effect t (clears_mark plan.proxy plan.path)) plan.draft n is
+  file-gone plan blob n (Some row) is numbered = up-gone (with_effect t (clears_negative plan.proxy plan.path)) plan.draft n is
 
   lands-gone : (plan : Plan) (outcome : Landing) (n : ℕ) → is_landing (kind plan.path) plan.draft outcome ≡ true → plan.draft ≡ Some n → Gone n t (lands s now plan outcome)
   lands-gone plan (Got (got_file blob)) n landing is = file-gone plan blob n (row_at plan.path (files_of plan.proxy s)) is (landed-is (kind plan.path) plan.draft n blob landing is)
   lands-gone plan (Got (got_doc document)) n landing is = absurd (no-draft-of (kind plan.path) plan.draft n document landing is)
-  lands-gone plan Missing n landing is = up-gone (with_effect t (marks_missing plan.proxy plan.path now)) plan.draft n is
+  lands-gone plan Missing n landing is = up-gone (with_effect t (adds_negative plan.proxy plan.path now)) plan.draft n is
   lands-gone plan outcome n landing is = up-gone t plan.draft n is
 
   late-gone : (under : Option ℕ) (n : ℕ) → under ≡ Some n → is_drawn under s.yard.drafts ≡ false → count_of n t.yard.drafts ≡ 0

@@ -16,7 +16,7 @@ use Rattle.repo_model.specs.Paths.{is_snapshot_path}
 use Rattle.repo_model.specs.Settings.{Settings}
 use Rattle.repo_model.specs.Prints.{recorded_print}
 use Rattle.repo_model.specs.State.{State, opening, new_hosted, is_repository, is_staged, is_open_at, row_at, rows_of, new_proxy}
-use Rattle.repo_model.specs.Effect.{Effect, draws, drops, creates, stages, delivers, discards, relists, fades, expires, forgets, lends, returns, opens, ends, with_staged, without_staged, list_again, fade, with_effect, with_effects, items_of, recorded, caches, keeps_doc, marks_missing, clears_mark, proxy_after}
+use Rattle.repo_model.specs.Effect.{Effect, draws, drops, creates, stages, delivers, discards, relists, fades, expires, forgets, lends, returns, opens, ends, with_staged, without_staged, list_again, fade, with_effect, with_effects, items_of, recorded, caches, keeps_doc, adds_negative, clears_negative, proxy_after}
 use Rattle.repo_model.specs.May.{May, AllMay}
 use Rattle.repo_model.specs.Reply.{is_free}
 use Rattle.repo_model.specs.Turn.{turn}
@@ -261,13 +261,13 @@ module _ (grace now : ℕ) (s : State) (t : Tables) (up : now ≤ s.last) (place
   step (ends n result) may = ended n result may
   step (caches id path blob moment) may = cached id path blob moment may
   step (keeps_doc id path document moment) may = kept id path document moment may
-  step (marks_missing id path moment) may = (
+  step (adds_negative id path moment) may = (
     tt,
-    quiet (marks_missing id path moment) refl may refl (λ k. cached-stays k id (proxy_after (marks_missing id path moment)) (λ p. omega arith) s.proxies) parts.sessions,
+    quiet (adds_negative id path moment) refl may refl (λ k. cached-stays k id (proxy_after (adds_negative id path moment)) (λ p. omega arith) s.proxies) parts.sessions,
   )
-  step (clears_mark id path) may = (
+  step (clears_negative id path) may = (
     tt,
-    quiet (clears_mark id path) refl may refl (λ k. cached-stays k id (proxy_after (clears_mark id path)) (λ p. omega arith) s.proxies) parts.sessions,
+    quiet (clears_negative id path) refl may refl (λ k. cached-stays k id (proxy_after (clears_negative id path)) (λ p. omega arith) s.proxies) parts.sessions,
   )
 
 step-held : (grace now : ℕ) (s : State) (t : Tables) → now ≤ s.last → OnePlace s → Numbered s → InOrder t → Holds t s → (e : Effect) → May grace now s e
@@ -285,7 +285,7 @@ fit-ordered : (items : List Item) (t : Tables) → AllFit t items → InOrder t 
 fit-ordered [] t all ordered = ordered
 fit-ordered (item ∷ items) t all ordered = fit-ordered items (item_on t item) all.1 (ordered-kept t item ordered all.0)
 
--- items that were applied fit, and the tables behind them are theirs
+-- items that were applied fit, and the tables after them are theirs
 pub applied-fit : (items : List Item) (place : ℕ) (t new : Tables) → applied_from place t items ≡ Ok new → AllFit t items
 applied-fit [] place t new is = tt
 applied-fit (item ∷ items) place t new is =
@@ -431,7 +431,7 @@ opening-held settings clock = record {
 }
 
 pub opening-stands : (settings : Settings) (clock : Option Moments) → StandsFor no_tables (opening settings clock)
-opening-stands settings clock = record { holds = opening-held settings clock; last = refl; next_lease = refl; none_open = tt; leases = refl; drafts = refl; condemned = refl; marks = all-map new_proxy (λ (p : Proxy). p.marks ≡ []) (λ rule. refl) settings.proxies }
+opening-stands settings clock = record { holds = opening-held settings clock; last = refl; next_lease = refl; none_open = tt; leases = refl; drafts = refl; condemned = refl; negatives = all-map new_proxy (λ (p : Proxy). p.negatives ≡ []) (λ rule. refl) settings.proxies }
 
 pub opening-numbered : (settings : Settings) (clock : Option Moments) → Numbered (opening settings clock)
 opening-numbered settings clock = record { below = tt; apart = tt }

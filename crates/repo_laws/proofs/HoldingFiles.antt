@@ -5,7 +5,7 @@ use Rattle.std.specs.Option.{option_map_or}
 use Rattle.repo_model.specs.Data.{Kept, Proxy}
 use Rattle.repo_model.specs.Settings.{ProxyRule}
 use Rattle.repo_model.specs.State.{State, is_proxy, row_at, new_proxy}
-use Rattle.repo_model.specs.Effect.{Effect, caches, keeps_doc, marks_missing, clears_mark, with_kept, proxy_after, with_effect, items_of}
+use Rattle.repo_model.specs.Effect.{Effect, caches, keeps_doc, adds_negative, clears_negative, with_kept, proxy_after, with_effect, items_of}
 use Rattle.repo_model.specs.May.{May}
 use Rattle.repo_model.specs.Proxies.{kept_at}
 use Rattle.repo_model.specs.Tables.{Tables, RecordedDocument, recorded_at, with_document}
@@ -29,10 +29,10 @@ files-held-kept grace now s (caches id path blob moment) t may held =
     rows-held-new id_of (λ (p : Proxy). p.files) id path (proxy_after (caches id path blob moment)) (λ p. refl) blob moment (λ p. refl) t.cached s.proxies held may.1 may.3
 files-held-kept grace now s (keeps_doc id path document moment) t may held =
     held-same id_of (λ (p : Proxy). p.files) shown_row id (proxy_after (keeps_doc id path document moment)) (λ p. refl) s.proxies (λ p. refl) (λ x y. recorded_at x y t.cached) held
-files-held-kept grace now s (marks_missing id path moment) t may held =
-    held-same id_of (λ (p : Proxy). p.files) shown_row id (proxy_after (marks_missing id path moment)) (λ p. refl) s.proxies (λ p. refl) (λ x y. recorded_at x y t.cached) held
-files-held-kept grace now s (clears_mark id path) t may held =
-    held-same id_of (λ (p : Proxy). p.files) shown_row id (proxy_after (clears_mark id path)) (λ p. refl) s.proxies (λ p. refl) (λ x y. recorded_at x y t.cached) held
+files-held-kept grace now s (adds_negative id path moment) t may held =
+    held-same id_of (λ (p : Proxy). p.files) shown_row id (proxy_after (adds_negative id path moment)) (λ p. refl) s.proxies (λ p. refl) (λ x y. recorded_at x y t.cached) held
+files-held-kept grace now s (clears_negative id path) t may held =
+    held-same id_of (λ (p : Proxy). p.files) shown_row id (proxy_after (clears_negative id path)) (λ p. refl) s.proxies (λ p. refl) (λ x y. recorded_at x y t.cached) held
 files-held-kept grace now s e t may held = held
 
 -- documents: one more, in the place of the one at its path
@@ -55,10 +55,10 @@ documents-held-kept grace now s (keeps_doc id path document moment) t may held =
     (sym (ap (option_map (recorded_kept id)) (kept-found path one kept ∙ ap (λ b. cond b (Some one) (kept_at path kept)) (is_itself path)))) may.1 held
 documents-held-kept grace now s (caches id path blob moment) t may held =
     held-same id_of (λ (p : Proxy). p.documents) shown_document id (proxy_after (caches id path blob moment)) (λ p. refl) s.proxies (λ p. refl) (λ x y. document_at x y t.documents) held
-documents-held-kept grace now s (marks_missing id path moment) t may held =
-    held-same id_of (λ (p : Proxy). p.documents) shown_document id (proxy_after (marks_missing id path moment)) (λ p. refl) s.proxies (λ p. refl) (λ x y. document_at x y t.documents) held
-documents-held-kept grace now s (clears_mark id path) t may held =
-    held-same id_of (λ (p : Proxy). p.documents) shown_document id (proxy_after (clears_mark id path)) (λ p. refl) s.proxies (λ p. refl) (λ x y. document_at x y t.documents) held
+documents-held-kept grace now s (adds_negative id path moment) t may held =
+    held-same id_of (λ (p : Proxy). p.documents) shown_document id (proxy_after (adds_negative id path moment)) (λ p. refl) s.proxies (λ p. refl) (λ x y. document_at x y t.documents) held
+documents-held-kept grace now s (clears_negative id path) t may held =
+    held-same id_of (λ (p : Proxy). p.documents) shown_document id (proxy_after (clears_negative id path)) (λ p. refl) s.proxies (λ p. refl) (λ x y. document_at x y t.documents) held
 documents-held-kept grace now s e t may held = held
 
 -- the opening state's proxies keep nothing

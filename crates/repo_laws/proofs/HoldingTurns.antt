@@ -29,7 +29,7 @@ module _ (settings : Settings) (s : State) (now : ℕ) where
   case-quiet c t (misses repo path tried) is = refl
   case-quiet c t case is = cc
 
-  -- behind any other reply nothing is recorded
+  -- after any other reply nothing is recorded
   pub refused-quiet : (c : Command) → can_record (turn settings s now c).reply ≡ false → recorded (turn settings s now c).effects ≡ []
   refused-quiet c = case-quiet c (turn settings s now c) (turn-case settings s now c)
 

@@ -1,4 +1,4 @@
--- What a document named before a stop is answered in the runs behind it.
+-- What a document named before a crash is answered in the runs after it.
 use native.Mathlib.Omega.{arith}
 use Rattle.std.proofs.Common.{◌≡◌, ◌≤◌, ◌+◌, ℕ, true, false, List, [], ◌∷◌, ◌++◌, inl, inr, Option, Some, None, refl, sym, ◌∙◌, ap, subst}
 use Rattle.std.specs.Prelude.{nat_le, IsTrue}
@@ -138,7 +138,7 @@ module _ (settings : Settings) (apart : AreNamedApart settings.hosted) (t : ℕ)
       (λ late. held-completed tables run.tables completes (held late)) in
       (answered, across runs (with_items run.tables (told settings run.start run.entries)) (last_moment m run.entries) order_then follow is_file early_then held_then)
 
--- each file that a document names, in the runs behind that one
+-- each file that a document names, in the runs after that one
 pub closed-across : (settings : Settings) (before : List Entry) (e : Entry) (rest : List Entry) (s : State) (tables : Tables) (runs : List Run) (repo : List ℕ) (d : Directory) (served : Document)
     → AreNamedApart settings.hosted → IsSound settings s → InOrder tables → Holds tables s → Legal settings s (before ++ e ∷ rest)
     → Follow settings (with_items tables (told settings s (before ++ e ∷ rest))) (end settings s (before ++ e ∷ rest)).last runs

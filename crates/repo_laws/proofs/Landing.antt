@@ -13,7 +13,7 @@ use Rattle.repo_model.specs.Fetched.{Landing, got_file, got_doc}
 use Rattle.repo_model.specs.Data.{Blob, Row, Proxy}
 use Rattle.repo_model.specs.Settings.{ProxyRule, Settings}
 use Rattle.repo_model.specs.State.{State, is_proxy, is_among, row_at, files_of, number_end}
-use Rattle.repo_model.specs.Effect.{Effect, caches, keeps_doc, marks_missing, clears_mark, proxies_after, with_effect}
+use Rattle.repo_model.specs.Effect.{Effect, caches, keeps_doc, adds_negative, clears_negative, proxies_after, with_effect}
 use Rattle.repo_model.specs.May.{AllMay, IsRowsBlob}
 use Rattle.repo_model.specs.Command.{proxy_rule_of, is_landing}
 use Rattle.repo_model.specs.Turn.{is_drawn, gives_draft_up, lands_file, lands}
@@ -64,11 +64,11 @@ module _ (grace now : ℕ) where
 
     file-can : (blob : Blob) → is_among blob.number s.yard.drafts ≡ true → (found : Option Row) → row_at plan.path (files_of plan.proxy s) ≡ found → AllMay grace now s (lands_file plan blob now found)
     file-can blob among None free = ((refl, there, among, free), (still (caches plan.proxy plan.path blob now), tt))
-    file-can blob among (Some row) found = (there, given-up-can (with_effect s (clears_mark plan.proxy plan.path)) plan.draft drawn)
+    file-can blob among (Some row) found = (there, given-up-can (with_effect s (clears_negative plan.proxy plan.path)) plan.draft drawn)
 
     pub lands-can : (outcome : Landing) → is_landing (kind plan.path) plan.draft outcome ≡ true → AllMay grace now s (lands s now plan outcome)
     lands-can (Got (got_file blob)) landing =
         file-can blob (landed-number (kind plan.path) plan.draft blob s.yard.drafts landing drawn) (row_at plan.path (files_of plan.proxy s)) refl
     lands-can (Got (got_doc document)) landing = ((refl, there), (still (keeps_doc plan.proxy plan.path _ now), tt))
-    lands-can Gone landing = ((refl, there), given-up-can (with_effect s (marks_missing plan.proxy plan.path now)) plan.draft drawn)
+    lands-can Gone landing = ((refl, there), given-up-can (with_effect s (adds_negative plan.proxy plan.path now)) plan.draft drawn)
     lands-can outcome landing = given-up-can s plan.draft drawn

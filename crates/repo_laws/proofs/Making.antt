@@ -11,7 +11,7 @@ use Rattle.fetch_plan.specs.declared.Outcome.TheVariants.{Got, Gone}
 use Rattle.repo_model.specs.Fetched.{Landing, got_file, got_doc}
 use Rattle.repo_model.specs.Settings.{Settings}
 use Rattle.repo_model.specs.State.{State, row_at, rows_of, files_of}
-use Rattle.repo_model.specs.Effect.{Effect, draws, drops, creates, stages, delivers, discards, relists, fades, expires, forgets, lends, returns, opens, ends, caches, keeps_doc, marks_missing, clears_mark, with_effects}
+use Rattle.repo_model.specs.Effect.{Effect, draws, drops, creates, stages, delivers, discards, relists, fades, expires, forgets, lends, returns, opens, ends, caches, keeps_doc, adds_negative, clears_negative, with_effects}
 use Rattle.repo_model.specs.Command.{Command, done, collect, land}
 use Rattle.repo_model.specs.Purge.{due_rows, fade_all, expire_all, expired_of, is_over, most_rows}
 use Rattle.repo_model.specs.Deploy.{deliver_at, deliver_again, deliver_all, discard_all}
@@ -32,8 +32,8 @@ expired-all R so grace now hosted =
 abbrev pub is_left : Effect → Bool
 is_left (drops n) = true
 is_left (keeps_doc id path document moment) = true
-is_left (marks_missing id path moment) = true
-is_left (clears_mark id path) = true
+is_left (adds_negative id path moment) = true
+is_left (clears_negative id path) = true
 is_left e = false
 
 module _ (R : Effect → Type 0) (left : (e : Effect) → is_left e ≡ true → R e) where
@@ -42,13 +42,13 @@ module _ (R : Effect → Type 0) (left : (e : Effect) → is_left e ≡ true →
   draft-made (Some n) = (left (drops n) refl, tt)
 
   file-made : (plan : Plan) (blob : Blob) (now : ℕ) (found : Option Row) → R (caches plan.proxy plan.path blob now) → AllByRecursion R (lands_file plan blob now found)
-  file-made plan blob now None cached = (cached, (left (clears_mark plan.proxy plan.path) refl, tt))
-  file-made plan blob now (Some row) cached = (left (clears_mark plan.proxy plan.path) refl, draft-made plan.draft)
+  file-made plan blob now None cached = (cached, (left (clears_negative plan.proxy plan.path) refl, tt))
+  file-made plan blob now (Some row) cached = (left (clears_negative plan.proxy plan.path) refl, draft-made plan.draft)
 
   pub lands-made : (s : State) (now : ℕ) (plan : Plan) (outcome : Landing) → ((blob : Blob) → outcome ≡ Got (got_file blob) → R (caches plan.proxy plan.path blob now)) → AllByRecursion R (lands s now plan outcome)
   lands-made s now plan (Got (got_file blob)) cached = file-made plan blob now (row_at plan.path (files_of plan.proxy s)) (cached blob refl)
-  lands-made s now plan (Got (got_doc document)) cached = (left (keeps_doc plan.proxy plan.path _ now) refl, (left (clears_mark plan.proxy plan.path) refl, tt))
-  lands-made s now plan Gone cached = (left (marks_missing plan.proxy plan.path now) refl, draft-made plan.draft)
+  lands-made s now plan (Got (got_doc document)) cached = (left (keeps_doc plan.proxy plan.path _ now) refl, (left (clears_negative plan.proxy plan.path) refl, tt))
+  lands-made s now plan Gone cached = (left (adds_negative plan.proxy plan.path now) refl, draft-made plan.draft)
   lands-made s now plan outcome cached = draft-made plan.draft
 
 -- the effects that a turn makes of a list of files or of rows

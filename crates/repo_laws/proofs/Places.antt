@@ -7,7 +7,7 @@ use Rattle.std.proofs.lemmas.Bool.{ne_eqb, false_from_ne_true, false≢true, and
 use Rattle.std.proofs.lemmas.List.Sums.{sum_by_push}
 use Rattle.repo_model.specs.Data.{Row, Hosted, Staged, Session}
 use Rattle.repo_model.specs.State.{State, Lease, change_where, is_row, is_staged, is_open_at, rows_of, is_among}
-use Rattle.repo_model.specs.Effect.{Effect, draws, drops, creates, stages, delivers, discards, relists, fades, expires, forgets, lends, returns, opens, ends, caches, keeps_doc, marks_missing, clears_mark, with_row, new_row, list_again, fade, with_staged, without_row, without_staged, new_session, proxy_after, with_effect}
+use Rattle.repo_model.specs.Effect.{Effect, draws, drops, creates, stages, delivers, discards, relists, fades, expires, forgets, lends, returns, opens, ends, caches, keeps_doc, adds_negative, clears_negative, with_row, new_row, list_again, fade, with_staged, without_row, without_staged, new_session, proxy_after, with_effect}
 use Rattle.repo_model.specs.May.{May, IsRowsBlob}
 use Rattle.repo_laws.specs.Laws.{places_of, rows_with, cached_with, count_of}
 use Rattle.repo_laws.specs.Sound.{OnePlace}
@@ -85,10 +85,10 @@ module _ (grace now : ℕ) (s : State) (n : ℕ) where
       omega (arith, given-up n blob.number s.yard.drafts may.2, here)
   places-counted (keeps_doc id path document moment) may =
       omega (arith, cached-grows n id (proxy_after (keeps_doc id path document moment)) 0 (λ p. omega arith) s.proxies)
-  places-counted (marks_missing id path moment) may =
-      omega (arith, cached-grows n id (proxy_after (marks_missing id path moment)) 0 (λ p. omega arith) s.proxies)
-  places-counted (clears_mark id path) may =
-      omega (arith, cached-grows n id (proxy_after (clears_mark id path)) 0 (λ p. omega arith) s.proxies)
+  places-counted (adds_negative id path moment) may =
+      omega (arith, cached-grows n id (proxy_after (adds_negative id path moment)) 0 (λ p. omega arith) s.proxies)
+  places-counted (clears_negative id path) may =
+      omega (arith, cached-grows n id (proxy_after (clears_negative id path)) 0 (λ p. omega arith) s.proxies)
 
 -- the next number grows where it is drawn
 pub next-counted : (s : State) (e : Effect) → (with_effect s e).yard.next_draft ≡ s.yard.next_draft + one_if (is_draw e)
@@ -183,10 +183,10 @@ lent-kept grace now s (caches id path blob moment) apart may all =
     all-lent s (with_effect s (caches id path blob moment)) (λ n. omega (arith, cached-stays n id (proxy_after (caches id path blob moment)) (λ p. omega (arith, count-with_row (names n) (new_row path blob moment) p.files)) s.proxies)) s.yard.leases all
 lent-kept grace now s (keeps_doc id path document moment) apart may all =
     all-lent s (with_effect s (keeps_doc id path document moment)) (λ n. omega (arith, cached-stays n id (proxy_after (keeps_doc id path document moment)) (λ p. omega arith) s.proxies)) s.yard.leases all
-lent-kept grace now s (marks_missing id path moment) apart may all =
-    all-lent s (with_effect s (marks_missing id path moment)) (λ n. omega (arith, cached-stays n id (proxy_after (marks_missing id path moment)) (λ p. omega arith) s.proxies)) s.yard.leases all
-lent-kept grace now s (clears_mark id path) apart may all =
-    all-lent s (with_effect s (clears_mark id path)) (λ n. omega (arith, cached-stays n id (proxy_after (clears_mark id path)) (λ p. omega arith) s.proxies)) s.yard.leases all
+lent-kept grace now s (adds_negative id path moment) apart may all =
+    all-lent s (with_effect s (adds_negative id path moment)) (λ n. omega (arith, cached-stays n id (proxy_after (adds_negative id path moment)) (λ p. omega arith) s.proxies)) s.yard.leases all
+lent-kept grace now s (clears_negative id path) apart may all =
+    all-lent s (with_effect s (clears_negative id path)) (λ n. omega (arith, cached-stays n id (proxy_after (clears_negative id path)) (λ p. omega arith) s.proxies)) s.yard.leases all
 lent-kept grace now s e apart may all = all
 
 -- each effect keeps all of it

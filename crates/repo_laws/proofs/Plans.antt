@@ -215,23 +215,23 @@ module _ (settings : Settings) (s : State) (now : ℕ) (rules : map (λ (x : Pro
       record { rule = rule; named = named; host = refl; port = refl; prefix = refl; path = fits plan.subject; fresh = plan.fresh; below = below }
 
   case-plan : (c : Command) (t : Turn) (id path tried : List ℕ) (plan : Plan) → Case settings s now c t → c ≡ look id path tried → t.reply ≡ fetches plan → IsPlan settings id tried plan
-  case-plan c t id path tried plan (plans_file repo on marked member rule at more seen) c_is says_so =
-      let looks : look repo on marked ≡ look id path tried = c_is in
+  case-plan c t id path tried plan (plans_file repo on known_missing member rule at more seen) c_is says_so =
+      let looks : look repo on known_missing ≡ look id path tried = c_is in
       let repo_is : repo ≡ id = cc in
       let on_is : on ≡ path = cc in
-      let marked_is : marked ≡ tried = cc in
+      let known_missing_is : known_missing ≡ tried = cc in
       let said : fetches (plan_of member rule at (Some s.yard.next_draft) (file_limit settings)) ≡ fetches plan = says_so in
       let plan_so : plan_of member rule at (Some s.yard.next_draft) (file_limit settings) ≡ plan = cc in
-      subst (λ (x : List ℕ). IsPlan settings x tried plan) repo_is (subst (λ (x : List ℕ). IsPlan settings repo x plan) marked_is (subst (λ (x : Plan). IsPlan settings repo marked x) plan_so
-      (plan-is repo marked on member rule at (Some s.yard.next_draft) (file_limit settings) true seen (λ subject. planned settings (kind at) s.yard.next_draft subject.0 subject.1))))
-  case-plan c t id path tried plan (plans_document repo on marked member rule at seen) c_is says_so =
-      let looks : look repo on marked ≡ look id path tried = c_is in
+      subst (λ (x : List ℕ). IsPlan settings x tried plan) repo_is (subst (λ (x : List ℕ). IsPlan settings repo x plan) known_missing_is (subst (λ (x : Plan). IsPlan settings repo known_missing x) plan_so
+      (plan-is repo known_missing on member rule at (Some s.yard.next_draft) (file_limit settings) true seen (λ subject. planned settings (kind at) s.yard.next_draft subject.0 subject.1))))
+  case-plan c t id path tried plan (plans_document repo on known_missing member rule at seen) c_is says_so =
+      let looks : look repo on known_missing ≡ look id path tried = c_is in
       let repo_is : repo ≡ id = cc in
-      let marked_is : marked ≡ tried = cc in
+      let known_missing_is : known_missing ≡ tried = cc in
       let said : fetches (plan_of member rule at None longest_document) ≡ fetches plan = says_so in
       let plan_so : plan_of member rule at None longest_document ≡ plan = cc in
-      subst (λ (x : List ℕ). IsPlan settings x tried plan) repo_is (subst (λ (x : List ℕ). IsPlan settings repo x plan) marked_is (subst (λ (x : Plan). IsPlan settings repo marked x) plan_so
-      (plan-is repo marked on member rule at None longest_document false seen (λ subject. planned-document settings (kind at) subject.0 subject.1))))
+      subst (λ (x : List ℕ). IsPlan settings x tried plan) repo_is (subst (λ (x : List ℕ). IsPlan settings repo x plan) known_missing_is (subst (λ (x : Plan). IsPlan settings repo known_missing x) plan_so
+      (plan-is repo known_missing on member rule at None longest_document false seen (λ subject. planned-document settings (kind at) subject.0 subject.1))))
   case-plan c t id path tried plan case c_is says_so = absurd (cc)
 
   pub look-plans : (id path tried : List ℕ) (plan : Plan) → (turn settings s now (look id path tried)).reply ≡ fetches plan → IsPlan settings id tried plan

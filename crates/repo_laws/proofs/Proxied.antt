@@ -8,7 +8,7 @@ use Rattle.repo_model.specs.Fetched.{got_file}
 use Rattle.repo_model.specs.Data.{Blob, Row}
 use Rattle.repo_model.specs.Settings.{Settings}
 use Rattle.repo_model.specs.State.{State, row_at, rows_of, files_of}
-use Rattle.repo_model.specs.Effect.{Effect, forgets, returns, caches, keeps_doc, marks_missing, clears_mark, with_row, new_row, proxy_after, with_effect, with_effects}
+use Rattle.repo_model.specs.Effect.{Effect, forgets, returns, caches, keeps_doc, adds_negative, clears_negative, with_row, new_row, proxy_after, with_effect, with_effects}
 use Rattle.repo_model.specs.Command.{Command, look, land}
 use Rattle.repo_model.specs.Reply.{file, landed, is_free}
 use Rattle.repo_model.specs.Turn.{Turn, turn, look_at, is_file}
@@ -57,10 +57,10 @@ module _ (id path : List ℕ) (blob : Blob) where
       ]) kept_then
   cached-before s (keeps_doc at new document moment) kept_then =
       files-changed id at (proxy_after (keeps_doc at new document moment)) (λ p. refl) (λ rows. IsRowOf rows path blob → Before s (keeps_doc at new document moment)) s.proxies (λ there. inl there) (λ p at_is found old there. old there) kept_then
-  cached-before s (marks_missing at new moment) kept_then =
-      files-changed id at (proxy_after (marks_missing at new moment)) (λ p. refl) (λ rows. IsRowOf rows path blob → Before s (marks_missing at new moment)) s.proxies (λ there. inl there) (λ p at_is found old there. old there) kept_then
-  cached-before s (clears_mark at new) kept_then =
-      files-changed id at (proxy_after (clears_mark at new)) (λ p. refl) (λ rows. IsRowOf rows path blob → Before s (clears_mark at new)) s.proxies (λ there. inl there) (λ p at_is found old there. old there) kept_then
+  cached-before s (adds_negative at new moment) kept_then =
+      files-changed id at (proxy_after (adds_negative at new moment)) (λ p. refl) (λ rows. IsRowOf rows path blob → Before s (adds_negative at new moment)) s.proxies (λ there. inl there) (λ p at_is found old there. old there) kept_then
+  cached-before s (clears_negative at new) kept_then =
+      files-changed id at (proxy_after (clears_negative at new)) (λ p. refl) (λ rows. IsRowOf rows path blob → Before s (clears_negative at new)) s.proxies (λ there. inl there) (λ p at_is found old there. old there) kept_then
   cached-before s e there = inl there
 
   all-before : (es : List Effect) (s : State) → IsRowOf (files_of id (with_effects s es)) path blob → IsRowOf (files_of id s) path blob ⊎ AnyByRecursion (Caches id path blob) es
@@ -130,15 +130,15 @@ module _ (id path : List ℕ) (blob : Blob) where
 -- a file is answered where one is seen
 case-seen : (settings : Settings) (s : State) (now lease : ℕ) (blob : Blob) (id path tried : List ℕ) (c : Command) (t : Turn) → Case settings s now c t → c ≡ look id path tried → t.reply ≡ file lease blob
     → look_at settings s now id tried path ≡ is_file blob
-case-seen settings s now lease blob id path tried c t (lends_file repo at marked kept more seen) c_is answered =
+case-seen settings s now lease blob id path tried c t (lends_file repo at known_missing kept more seen) c_is answered =
     let one : file s.yard.next_lease kept ≡ file lease blob = answered in
-    let other : look repo at marked ≡ look id path tried = c_is in
+    let other : look repo at known_missing ≡ look id path tried = c_is in
     let blob_is : kept ≡ blob = cc in
     let repo_is : repo ≡ id = cc in
     let at_is : at ≡ path = cc in
-    let tried_is : marked ≡ tried = cc in
+    let tried_is : known_missing ≡ tried = cc in
     ap (λ (x : List ℕ). look_at settings s now x tried path) (sym repo_is) ∙ ap (λ (x : List ℕ). look_at settings s now repo x path) (sym tried_is)
-    ∙ ap (λ (x : List ℕ). look_at settings s now repo marked x) (sym at_is) ∙ seen ∙ ap is_file blob_is
+    ∙ ap (λ (x : List ℕ). look_at settings s now repo known_missing x) (sym at_is) ∙ seen ∙ ap is_file blob_is
 case-seen settings s now lease blob id path tried c t case c_is answered = absurd (cc)
 
 legal-front : (settings : Settings) (before later : List Entry) (s : State) → Legal settings s (before ++ later) → Legal settings s before × Legal settings (end settings s before) later

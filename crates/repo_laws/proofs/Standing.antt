@@ -8,7 +8,7 @@ use Rattle.std.proofs.lemmas.List.Sums.{sum_by-append, sum_by_push}
 use Rattle.repo_model.specs.Data.{Row, Hosted, Staged, Session}
 use Rattle.repo_model.specs.Settings.{Settings}
 use Rattle.repo_model.specs.State.{State, change_where, change_first, is_repository, is_row, is_staged, is_open_at, rows_of, is_among}
-use Rattle.repo_model.specs.Effect.{Effect, draws, drops, creates, stages, delivers, discards, relists, fades, expires, forgets, lends, returns, opens, ends, without_number, with_row, new_row, list_again, fade, with_staged, without_row, without_staged, new_session, with_effect, with_effects, caches, keeps_doc, marks_missing, clears_mark, proxy_after}
+use Rattle.repo_model.specs.Effect.{Effect, draws, drops, creates, stages, delivers, discards, relists, fades, expires, forgets, lends, returns, opens, ends, without_number, with_row, new_row, list_again, fade, with_staged, without_row, without_staged, new_session, with_effect, with_effects, caches, keeps_doc, adds_negative, clears_negative, proxy_after}
 use Rattle.repo_model.specs.May.{May, AllMay}
 use Rattle.repo_model.specs.Command.{Command, look, collect}
 use Rattle.repo_model.specs.Reply.{is_free, collected}
@@ -114,10 +114,10 @@ module _ (grace now : ℕ) (s : State) (n : ℕ) (once : places_of s n ≤ 1) wh
       omega (arith, one-out n blob.number s.yard.drafts (omega (arith, once)), more)
   places-stay (keeps_doc id path document moment) rows files may =
       omega (arith, cached-stays n id (proxy_after (keeps_doc id path document moment)) (λ p. omega arith) s.proxies)
-  places-stay (marks_missing id path moment) rows files may =
-      omega (arith, cached-stays n id (proxy_after (marks_missing id path moment)) (λ p. omega arith) s.proxies)
-  places-stay (clears_mark id path) rows files may =
-      omega (arith, cached-stays n id (proxy_after (clears_mark id path)) (λ p. omega arith) s.proxies)
+  places-stay (adds_negative id path moment) rows files may =
+      omega (arith, cached-stays n id (proxy_after (adds_negative id path moment)) (λ p. omega arith) s.proxies)
+  places-stay (clears_negative id path) rows files may =
+      omega (arith, cached-stays n id (proxy_after (clears_negative id path)) (λ p. omega arith) s.proxies)
   places-stay (ends m result) rows files may =
       omega (arith, staged-gained n (is_open_at m) (λ session. record session { ended = Some result }) 0 0 s.sessions may.0 may.1 (omega arith))
 

@@ -155,5 +155,5 @@ module _ (settings : Settings) (tells : ℕ → Option (List ℕ)) (stored : Lis
     leases = refl;
     drafts = refl;
     condemned = refl;
-    marks = all-map (proxy_from tells t) (λ (p : Proxy). p.marks ≡ []) (λ rule. refl) settings.proxies;
+    negatives = all-map (proxy_from tells t) (λ (p : Proxy). p.negatives ≡ []) (λ rule. refl) settings.proxies;
   }

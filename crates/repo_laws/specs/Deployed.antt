@@ -1,4 +1,4 @@
--- What is visible of a repository behind a commit.
+-- What is visible of a repository after a commit.
 use Rattle.std.specs.Prelude.{◌≡◌, ℕ, List, Some, None}
 use Rattle.mvn_coords.specs.Layout.{Coordinates}
 use Rattle.repo_model.specs.declared.print.Print.{Print}

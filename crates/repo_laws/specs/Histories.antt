@@ -31,7 +31,7 @@ faded =
     ∷ at 2000 (unlist snapshots) (unlisted 1)
     ∷ []
 
--- it is read up to the grace, and gone behind it
+-- it is read up to the grace, and gone after it
 abbrev pub purged : List Entry
 purged =
     faded
@@ -135,7 +135,7 @@ sent_again =
     ∷ at 1709208010 (look releases (sha1_file release_jar) []) (text sha1_text_of_abc)
     ∷ []
 
--- a build fades as a whole, behind the moment at which its last file was accepted, where its own directory has a newer one
+-- a build fades as a whole, after the moment at which its last file was accepted, where its own directory has a newer one
 abbrev pub aged : List Entry
 aged =
     at 980 (may_put (repository snapshots) jar_3) (draft 1)
@@ -155,7 +155,7 @@ aged =
     ∷ at 1067 (look snapshots (sha1_file jar_1) []) missed
     ∷ []
 
--- three builds, of which the two older ones fade a second behind the day from which their files were accepted, and the newest never
+-- three builds, of which the two older ones fade a second after the day from which their files were accepted, and the newest never
 abbrev pub kept_a_day : List Entry
 kept_a_day =
     at 1000 (may_put (repository snapshots) jar_1) (draft 1)

@@ -75,7 +75,7 @@ GivesDraft n (draft m) = m ≡ n
 GivesDraft n (fetches plan) = plan.draft ≡ Some n
 GivesDraft n reply = ⊥
 
--- the replies behind which a draft stands as it did
+-- the replies after which a draft stands as it did
 abbrev pub leaves_drafts : Reply → Bool
 leaves_drafts no_draft = true
 leaves_drafts reply = is_free reply

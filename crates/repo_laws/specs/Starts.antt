@@ -12,11 +12,11 @@ use Rattle.repo_laws.specs.Holds.{with_items, told}
 use Rattle.repo_laws.specs.Histories.{faded}
 use Rattle.repo_laws.specs.Worked.{shop, abc, at, snapshots, releases, jar_1, jar_3, later_jar}
 
--- a start behind a build that fades; the store has the rows' blobs and one that no row names
+-- a start after a build that fades; the store has the rows' blobs and one that no row names
 abbrev pub purge_begun : State
 purge_begun = started shop (λ n. Some (codes "abc")) (1 ∷ 2 ∷ 7 ∷ []) None 0 (with_items no_tables (told shop (opening shop None) faded))
 
--- the build is read up to the grace, and goes behind it
+-- the build is read up to the grace, and goes after it
 abbrev pub purged_later : List Entry
 purged_later =
     at 2060 (look snapshots jar_1 []) (file 1 (abc 1))
@@ -36,7 +36,7 @@ sessions_of_three =
     ∷ at 3010 (open_session releases) (opened 3)
     ∷ []
 
--- a start behind them, over a store that has one blob
+-- a start after them, over a store that has one blob
 abbrev pub sessions_ended : State
 sessions_ended = started shop (λ n. None) (4 ∷ []) None 0 (with_items no_tables (told shop (opening shop None) sessions_of_three))
 

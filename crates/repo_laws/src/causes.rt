@@ -12,7 +12,7 @@ ghost use Rattle.repo_laws.specs.Replies.{is_refusal};
 /// A refusal is the reply of a turn exactly where it has its cause in the state: nothing at the path, a kind that the repository
 /// does not take, no open session of the number, no draft of the number, another content at the path, another digest than the
 /// one that was said, no more sessions or staged files, a release directory without its pom, or no number left; of a look at a
-/// proxy or a group that this is what is seen there. So is it of an entry, but where memory is wanting.
+/// proxy or a group that this is what is seen there. So is it of an entry, but when memory runs out.
 pub fn refusals_have_causes()
     ensures turn { (settings : Settings) (s : State) (now : ℕ) (c : Command) (r : Reply) → IsTrue (is_refusal r)
         → ((turn settings s now c).reply ≡ r) ↔ Cause settings s now c r }

@@ -33,7 +33,7 @@ pub fn visible_rows_stand()
         → Stands path blob t (rows_of repo s) → Stands path blob t (rows_of repo (with_effect s e)) }
 {}
 
-/// Behind a commit that is done with so many files these are the staged ones; each of them is visible at its path with its content,
+/// After a commit that is done with so many files these are the staged ones; each of them is visible at its path with its content,
 /// and so is the pom of each release's version directory that has one of them.
 pub fn commits_deploy_all()
     ensures count { (settings : Settings) (old : State) (e : Entry) (n k : ℕ) (one : Session) → IsSound settings old → Fits settings old e → e.command ≡ commit n

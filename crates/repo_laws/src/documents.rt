@@ -21,7 +21,7 @@ ghost use Rattle.repo_laws.specs.Sound.{AreNamedApart, IsSound};
 ghost use Rattle.repo_laws.specs.Closed.{named, AnswersDocument, AnswersUpTo, StandsInTime, Closed};
 
 /// In every legal history from a sound state each file that a served document names is answered at its own address with its
-/// blob and digests, up to the grace after that moment, or memory is wanting, or no lease is left. It holds from any state on
+/// blob and digests, up to the grace after that moment, or memory runs out, or no lease is left. It holds from any state on
 /// in which the file stands. After a start the last moment may be earlier than that of the document, so there it holds of entries
 /// that begin no earlier than the moment up to which the file is known to stand.
 pub fn served_names_are_answered()

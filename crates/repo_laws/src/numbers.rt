@@ -46,7 +46,7 @@ pub fn readers_last()
 {}
 
 /// A draft serves once: the command that puts, stages, lands or drops it gives it up, and it is never drawn again. It stands until then:
-/// who was given a draft and is answered that it is none comes behind another entry that spent it.
+/// who was given a draft and is answered that it is none comes after another entry that spent it.
 pub fn drafts_serve_once()
     ensures put { (settings : Settings) (old : State) (e : Entry) (repo path : List ℕ) (n : ℕ) (blob : Blob) → Fits settings old e
         → e.command ≡ put repo path n blob → is_free e.reply ≡ false → count_of n (after settings old e).yard.drafts ≡ 0 }

@@ -22,7 +22,7 @@ pub fn commands_get_their_replies()
     ensures entry { (settings : Settings) (old : State) (e : Entry) → Fits settings old e → is_free e.reply ≡ false → IsTrue (can_get e.command e.reply) }
 {}
 
-/// Giving a lease back and giving a draft up are never refused, not for want of memory either.
+/// Giving a lease back and giving a draft up are never refused, not because memory ran out either.
 pub fn giving_up_is_never_refused()
     ensures lease { (settings : Settings) (old : State) (e : Entry) (lease : ℕ) → Fits settings old e → e.command ≡ done lease → e.reply ≡ given_back }
     ensures draft { (settings : Settings) (old : State) (e : Entry) (draft : ℕ) → Fits settings old e → e.command ≡ drop_draft draft → e.reply ≡ dropped }
@@ -38,7 +38,7 @@ pub fn refusals_change_nothing()
         → (after settings old e).hosted ≡ old.hosted }
 {}
 
-/// But for want of memory and failing records the reply and the next state are functions of the state, the command and the
+/// Apart from running out of memory and failing records the reply and the next state are functions of the state, the command and the
 /// moment. So two legal histories from one state that ask alike have the same replies and the same end.
 pub fn replies_are_determined()
     ensures reply { (settings : Settings) (old : State) (e : Entry) → Fits settings old e → is_free e.reply ≡ false

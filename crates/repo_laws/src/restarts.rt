@@ -55,10 +55,10 @@ pub fn starts_complete_rows()
 {}
 
 /// Across restarts: each file that a document named is answered in all later runs under the same settings, up to the grace after
-/// that moment, with its number and fingerprint, or memory is wanting, or no lease is left; a fingerprint that lacked its further
+/// that moment, with its number and fingerprint, or memory runs out, or no lease is left; a fingerprint that lacked its further
 /// digests may have been given them. Each run begins in a sound state that stands for the tables after the commits of the runs
 /// before it, once its start has completed them, and no earlier than these ended. What was being
-/// committed at a stop counts as an entry of that run, or as none.
+/// committed at a crash counts as an entry of that run, or as none.
 pub fn served_names_outlast_restarts()
     ensures { (settings : Settings) (before : List Entry) (e : Entry) (rest : List Entry) (s : State) (t : Tables) (runs : List Run) (repo : List ℕ) (d : Directory)
         (served : Document) → AreNamedApart settings.hosted → IsSound settings s → InOrder t → Holds t s → Legal settings s (before ++ e ∷ rest)

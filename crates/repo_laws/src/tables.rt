@@ -80,7 +80,7 @@ pub fn greatest_moment_is_least()
     ensures least { (t : Tables) (most : ℕ) → AreUpTo most t → greatest_moment t ≤ most }
 {}
 
-/// What is recorded fits the tables that hold the state, and the tables behind it hold the state behind it.
+/// What is recorded fits the tables that hold the state, and the tables after it hold the state after it.
 pub fn tables_hold()
     ensures effect { (grace now : ℕ) (s : State) (e : Effect) (t : Tables) → May grace now s e → now ≤ s.last → OnePlace s → Numbered s → InOrder t → Holds t s
         → (applied t (items_of e) ≡ Ok (with_items t (items_of e))) × InOrder (with_items t (items_of e)) × Holds (with_items t (items_of e)) (with_effect s e) }

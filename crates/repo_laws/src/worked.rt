@@ -37,7 +37,7 @@ pub fn worked_fetches()
     ensures an_hour { Legal hourly_shop (opening hourly_shop None) an_hour }
 {}
 
-/// So are those behind a start over the tables that such histories leave: what fades is read up to the grace and then goes, results
+/// So are those after a start over the tables that such histories leave: what fades is read up to the grace and then goes, results
 /// are kept, and numbers go on above what rows and the store have.
 pub fn worked_starts()
     ensures purge { Legal shop purge_begun purged_later }

@@ -42,16 +42,16 @@ pub record Kept : Type 0 where
   pub document : Document
 
 -- a path at which a proxy's remote had nothing, and when it was asked
-pub record Mark : Type 0 where
+pub record NegativeEntry : Type 0 where
   pub path : List ℕ
   pub moment : ℕ
 
--- a proxy: its cached files, each path once, in byte order of path, none of which fades; the documents that it keeps, and its marks, alike
+-- a proxy: its cached files, each path once, in byte order of path, none of which fades; the documents that it keeps, and its negative entries, alike
 pub record Proxy : Type 0 where
   pub rule : ProxyRule
   pub files : List Row
   pub documents : List Kept
-  pub marks : List Mark
+  pub negatives : List NegativeEntry
 
 -- a file that a session has staged
 pub record Staged : Type 0 where

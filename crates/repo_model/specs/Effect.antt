@@ -7,9 +7,9 @@ use Rattle.repo_model.specs.declared.item.Item.{Item}
 use Rattle.repo_model.specs.declared.item.Item.TheVariants.{HostedPut, Faded, Relisted, Removed, CachedFile, CachedDoc, SessionOpened, SessionEnded}
 use Rattle.repo_model.specs.declared.session.SessionResult.{SessionResult}
 use Rattle.mvn_metadata.specs.Document.{Document}
-use Rattle.repo_model.specs.Data.{Blob, Row, listed, fading, Hosted, Kept, Mark, Proxy, Staged, Session}
+use Rattle.repo_model.specs.Data.{Blob, Row, listed, fading, Hosted, Kept, NegativeEntry, Proxy, Staged, Session}
 use Rattle.repo_model.specs.Prints.{recorded_print}
-use Rattle.repo_model.specs.State.{State, Yard, change_where, change_first, is_repository, is_row, is_proxy, is_mark, is_staged, is_open_at, is_among}
+use Rattle.repo_model.specs.State.{State, Yard, change_where, change_first, is_repository, is_row, is_proxy, is_negative_of, is_staged, is_open_at, is_among}
 
 pub data Effect : Type 0 where
   -- blob numbers: the next one is drawn; a draft is given up; a draft becomes a new row's blob, or a staged file's
@@ -35,8 +35,8 @@ pub data Effect : Type 0 where
   caches : (proxy path : List ℕ) (blob : Blob) (moment : ℕ) → Effect
   keeps_doc : (proxy path : List ℕ) (document : Document) (moment : ℕ) → Effect
   -- the remote had nothing at a path; or it has something, and that is forgotten
-  marks_missing : (proxy path : List ℕ) (moment : ℕ) → Effect
-  clears_mark : (proxy path : List ℕ) → Effect
+  adds_negative : (proxy path : List ℕ) (moment : ℕ) → Effect
+  clears_negative : (proxy path : List ℕ) → Effect
 
 -- numbers in rising order with one more, or without one
 abbrev pub with_number : ℕ → List ℕ → List ℕ
@@ -87,37 +87,37 @@ with_kept new [] = new ∷ []
 with_kept new (k ∷ kept) =
     match_ordering (slice_cmp nat_cmp new.path k.path) (new ∷ k ∷ kept) (new ∷ kept) (k ∷ with_kept new kept)
 
-abbrev pub without_mark : List ℕ → List Mark → List Mark
-without_mark path marks = filter (λ m. not (is_mark path m)) marks
+abbrev pub without_negative : List ℕ → List NegativeEntry → List NegativeEntry
+without_negative path negatives = filter (λ m. not (is_negative_of path m)) negatives
 
--- a mark is older than another: it has the lesser moment, and of equal ones the lesser path
-abbrev pub is_older : Mark → Mark → Bool
+-- a negative entry is older than another: it has the lesser moment, and of equal ones the lesser path
+abbrev pub is_older : NegativeEntry → NegativeEntry → Bool
 is_older a b = nat_lt a.moment b.moment || ((a.moment == b.moment) && is_lt (slice_cmp nat_cmp a.path b.path))
 
-abbrev pub older : Option Mark → Mark → Option Mark
+abbrev pub older : Option NegativeEntry → NegativeEntry → Option NegativeEntry
 older None m = Some m
 older (Some best) m = Some (if is_older m best then m else best)
 
-abbrev pub without_oldest : Option Mark → List Mark → List Mark
-without_oldest None marks = marks
-without_oldest (Some m) marks = without_mark m.path marks
+abbrev pub without_oldest : Option NegativeEntry → List NegativeEntry → List NegativeEntry
+without_oldest None negatives = negatives
+without_oldest (Some m) negatives = without_negative m.path negatives
 
--- the most marks of a proxy
-abbrev pub most_marks : ℕ
-most_marks = 10_000
+-- the most negative entries of a proxy
+abbrev pub most_negatives : ℕ
+most_negatives = 10_000
 
--- marks of which there are as many as may be lose the oldest
-abbrev pub with_room : List Mark → List Mark
-with_room marks = if nat_le most_marks (length marks) then without_oldest (fold older None marks) marks else marks
+-- negative entries of which there are as many as may be lose the oldest
+abbrev pub with_room : List NegativeEntry → List NegativeEntry
+with_room negatives = if nat_le most_negatives (length negatives) then without_oldest (fold older None negatives) negatives else negatives
 
-abbrev pub insert_mark : Mark → List Mark → List Mark
-insert_mark new [] = new ∷ []
-insert_mark new (m ∷ marks) =
-    match_ordering (slice_cmp nat_cmp new.path m.path) (new ∷ m ∷ marks) (new ∷ m ∷ marks) (m ∷ insert_mark new marks)
+abbrev pub insert_negative : NegativeEntry → List NegativeEntry → List NegativeEntry
+insert_negative new [] = new ∷ []
+insert_negative new (m ∷ negatives) =
+    match_ordering (slice_cmp nat_cmp new.path m.path) (new ∷ m ∷ negatives) (new ∷ m ∷ negatives) (m ∷ insert_negative new negatives)
 
--- marks in byte order of path with one more, in the place of the one at its path
-abbrev pub with_mark : Mark → List Mark → List Mark
-with_mark new marks = insert_mark new (with_room (without_mark new.path marks))
+-- negative entries in byte order of path with one more, in the place of the one at its path
+abbrev pub with_negative : NegativeEntry → List NegativeEntry → List NegativeEntry
+with_negative new negatives = insert_negative new (with_room (without_negative new.path negatives))
 
 -- the rows of a repository after an effect there
 abbrev pub rows_after : Effect → List Row → List Row
@@ -137,8 +137,8 @@ rows_after (opens n repo) rows = rows
 rows_after (ends n result) rows = rows
 rows_after (caches id path blob moment) rows = rows
 rows_after (keeps_doc id path document moment) rows = rows
-rows_after (marks_missing id path moment) rows = rows
-rows_after (clears_mark id path) rows = rows
+rows_after (adds_negative id path moment) rows = rows
+rows_after (clears_negative id path) rows = rows
 
 -- the repository whose rows an effect changes
 abbrev pub repo_of : Effect → Option (List ℕ)
@@ -158,8 +158,8 @@ repo_of (opens n repo) = None
 repo_of (ends n result) = None
 repo_of (caches id path blob moment) = None
 repo_of (keeps_doc id path document moment) = None
-repo_of (marks_missing id path moment) = None
-repo_of (clears_mark id path) = None
+repo_of (adds_negative id path moment) = None
+repo_of (clears_negative id path) = None
 
 abbrev pub in_repo : Option (List ℕ) → (List Row → List Row) → List Hosted → List Hosted
 in_repo None f hosted = hosted
@@ -173,8 +173,8 @@ abbrev pub proxy_after : Effect → Proxy → Proxy
 proxy_after (caches id path blob moment) p = record p { files = with_row (new_row path blob moment) p.files }
 proxy_after (keeps_doc id path document moment) p =
     record p { documents = with_kept (record { path = path; checked = moment; document = document }) p.documents }
-proxy_after (marks_missing id path moment) p = record p { marks = with_mark (record { path = path; moment = moment }) p.marks }
-proxy_after (clears_mark id path) p = record p { marks = without_mark path p.marks }
+proxy_after (adds_negative id path moment) p = record p { negatives = with_negative (record { path = path; moment = moment }) p.negatives }
+proxy_after (clears_negative id path) p = record p { negatives = without_negative path p.negatives }
 proxy_after draws p = p
 proxy_after (drops n) p = p
 proxy_after (creates repo path blob moment) p = p
@@ -194,8 +194,8 @@ proxy_after (ends n result) p = p
 abbrev pub at_proxy : Effect → Option (List ℕ)
 at_proxy (caches id path blob moment) = Some id
 at_proxy (keeps_doc id path document moment) = Some id
-at_proxy (marks_missing id path moment) = Some id
-at_proxy (clears_mark id path) = Some id
+at_proxy (adds_negative id path moment) = Some id
+at_proxy (clears_negative id path) = Some id
 at_proxy draws = None
 at_proxy (drops n) = None
 at_proxy (creates repo path blob moment) = None
@@ -236,8 +236,8 @@ sessions_after (opens n repo) sessions = sessions ++ new_session n repo ∷ []
 sessions_after (ends n result) sessions = change_first (is_open_at n) (λ session. record session { ended = Some result }) sessions
 sessions_after (caches id path blob moment) sessions = sessions
 sessions_after (keeps_doc id path document moment) sessions = sessions
-sessions_after (marks_missing id path moment) sessions = sessions
-sessions_after (clears_mark id path) sessions = sessions
+sessions_after (adds_negative id path moment) sessions = sessions
+sessions_after (clears_negative id path) sessions = sessions
 
 abbrev pub yard_after : Effect → Yard → Yard
 yard_after draws yard = record yard { drafts = yard.drafts ++ yard.next_draft ∷ []; next_draft = yard.next_draft + 1 }
@@ -257,8 +257,8 @@ yard_after (opens n repo) yard = record yard { next_session = n + 1 }
 yard_after (ends n result) yard = yard
 yard_after (caches id path blob moment) yard = without_draft blob.number yard
 yard_after (keeps_doc id path document moment) yard = yard
-yard_after (marks_missing id path moment) yard = yard
-yard_after (clears_mark id path) yard = yard
+yard_after (adds_negative id path moment) yard = yard
+yard_after (clears_negative id path) yard = yard
 
 -- the state after one of them
 abbrev pub with_effect : State → Effect → State
@@ -291,8 +291,8 @@ items_of (opens n repo) = SessionOpened n ∷ []
 items_of (ends n result) = SessionEnded n result ∷ []
 items_of (caches id path blob moment) = CachedFile id path blob.number (recorded_print blob.print) moment ∷ []
 items_of (keeps_doc id path document moment) = CachedDoc id path moment document ∷ []
-items_of (marks_missing id path moment) = []
-items_of (clears_mark id path) = []
+items_of (adds_negative id path moment) = []
+items_of (clears_negative id path) = []
 
 abbrev pub recorded : List Effect → List Item
 recorded effects = flat_map items_of effects

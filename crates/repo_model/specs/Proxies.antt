@@ -11,8 +11,8 @@ use Rattle.repo_model.specs.declared.update.Update.{Update}
 use Rattle.repo_model.specs.declared.update.Update.TheVariants as update
 use Rattle.repo_model.specs.declared.step.Step.{Step}
 use Rattle.repo_model.specs.declared.step.Step.TheVariants.{Serve, Missed, Blocked, Negative, Never, Fetch}
-use Rattle.repo_model.specs.Data.{Kept, Mark, Proxy}
-use Rattle.repo_model.specs.State.{is_kept, is_mark, row_at}
+use Rattle.repo_model.specs.Data.{Kept, NegativeEntry, Proxy}
+use Rattle.repo_model.specs.State.{is_kept, is_negative_of, row_at}
 
 -- the path of a file or document, also by the path of its side file
 abbrev pub subject_of : List ℕ → Result Kind PathFault → List ℕ
@@ -35,16 +35,16 @@ abbrev pub asks_never : Update → Bool
 asks_never update.Never = true
 asks_never policy = false
 
-abbrev pub is_marked : ℕ → ℕ → Option Mark → Bool
-is_marked seconds now None = false
-is_marked seconds now (Some m) = nat_lt now (m.moment + seconds)
+abbrev pub is_fresh_negative : ℕ → ℕ → Option NegativeEntry → Bool
+is_fresh_negative seconds now None = false
+is_fresh_negative seconds now (Some m) = nat_lt now (m.moment + seconds)
 
 -- what is done where nothing that may be served stands at the path; it was tried already, or not
 abbrev pub step_out : Proxy → ℕ → Bool → List ℕ → Step
 step_out p now tried path =
     if tried then Missed
     else if asks_never p.rule.update then Never
-    else if is_marked p.rule.negative_seconds now (find (is_mark path) p.marks) then Negative
+    else if is_fresh_negative p.rule.negative_seconds now (find (is_negative_of path) p.negatives) then Negative
     else Fetch
 
 -- a stale document is served unless the remote is asked

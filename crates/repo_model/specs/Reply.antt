@@ -65,7 +65,7 @@ is_free no_memory = true
 is_free store_fault = true
 is_free reply = false
 
--- want of memory may be the reply to it
+-- running out of memory may be the reply to it
 abbrev pub takes_memory : Command → Bool
 takes_memory (done lease) = false
 takes_memory (drop_draft n) = false

@@ -24,7 +24,7 @@ use Rattle.repo_model.specs.Settings.{GroupRule, ProxyRule, Settings}
 use Rattle.repo_model.specs.Paths.{takes}
 use Rattle.repo_model.specs.Document.{document}
 use Rattle.repo_model.specs.State.{State, Yard, Lease, hosted_of, proxy_of, row_at, rows_of, files_of, session_of, open_of, is_open, is_staged, is_among, number_end, most_sessions, most_staged}
-use Rattle.repo_model.specs.Effect.{Effect, draws, drops, creates, stages, relists, forgets, lends, returns, opens, ends, caches, keeps_doc, marks_missing, clears_mark, with_effects}
+use Rattle.repo_model.specs.Effect.{Effect, draws, drops, creates, stages, relists, forgets, lends, returns, opens, ends, caches, keeps_doc, adds_negative, clears_negative, with_effects}
 use Rattle.repo_model.specs.Command.{Command, look, done, may_put, put, put_side, put_doc, drop_draft, open_session, stage, commit, abort, unlist, collect, ask, land, group_rule_of}
 use Rattle.repo_model.specs.Reply.{Reply, file, text, doc, missed, given_back, kind_refused, draft, no_draft, taken, same, relisted, created, not_there, differs, agreed, noted, dropped, no_session, sessions_full, opened, session_full, staged, ended, unlisted, collected, finds, spent, offends, missing_pom, fetches, blocked, negative, never_asked, landed}
 use Rattle.repo_model.specs.Asked.{finding_of}
@@ -233,15 +233,15 @@ gives_draft_up (Some n) = drops n ∷ []
 
 -- a file is kept unless one is there; what the remote has is no longer missing
 abbrev pub lands_file : Plan → Blob → ℕ → Option Row → List Effect
-lands_file plan blob now None = caches plan.proxy plan.path blob now ∷ clears_mark plan.proxy plan.path ∷ []
-lands_file plan blob now (Some row) = clears_mark plan.proxy plan.path ∷ gives_draft_up plan.draft
+lands_file plan blob now None = caches plan.proxy plan.path blob now ∷ clears_negative plan.proxy plan.path ∷ []
+lands_file plan blob now (Some row) = clears_negative plan.proxy plan.path ∷ gives_draft_up plan.draft
 
 -- what lands at a proxy that keeps these files
 abbrev pub lands_by : List Row → ℕ → Plan → Landing → List Effect
 lands_by files now plan (Got (got_file blob)) = lands_file plan blob now (row_at plan.path files)
 lands_by files now plan (Got (got_doc document)) =
-    keeps_doc plan.proxy plan.path (settled_at document (kind plan.path)) now ∷ clears_mark plan.proxy plan.path ∷ []
-lands_by files now plan Gone = marks_missing plan.proxy plan.path now ∷ gives_draft_up plan.draft
+    keeps_doc plan.proxy plan.path (settled_at document (kind plan.path)) now ∷ clears_negative plan.proxy plan.path ∷ []
+lands_by files now plan Gone = adds_negative plan.proxy plan.path now ∷ gives_draft_up plan.draft
 lands_by files now plan outcome = gives_draft_up plan.draft
 
 abbrev pub lands : State → ℕ → Plan → Landing → List Effect

@@ -74,7 +74,7 @@ few-below (suc end) ns once =
 one-here : (m end : ℕ) (k : ℕ) → one_if (m == m) + k ≡ 0 → ⊥
 one-here m end k is = let here : one_if (m == m) ≡ 1 = grind (arith, nat_tests) in absurd (omega arith)
 
--- where none is at the end or behind it
+-- where none is at the end or after it
 all-below : (end : ℕ) (ns : List ℕ) → ((n : ℕ) → end ≤ n → count_of n ns ≡ 0) → length ns ≡ below end ns
 all-below end [] none = refl
 all-below end (m ∷ ms) none =

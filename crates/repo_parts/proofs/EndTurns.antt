@@ -153,7 +153,7 @@ module _ (n : ℕ) where
         | false ↦ λ still. known-open sessions still
       ] none
 
--- ---- what an end leaves, unless memory was wanting or the records failed
+-- ---- what an end leaves, unless memory ran out or the records failed
 module _ (grace now : ℕ) (s : State) (es : List Effect) (going : AllByRecursion IsGoing es) (may : AllMay grace now s es) (places : OnePlace s) (kept : List ℕ) (used : AreInUse kept s.hosted)
     (staged_so : AreStagedInUse kept s.sessions) where
   abbrev pub garbage_if : Bool → List ℕ

@@ -13,8 +13,8 @@ use Rattle.group_view.specs.declared.stances.Stance.TheVariants as stance
 use Rattle.group_laws.specs.Seen.{stance_of}
 use Rattle.hosted_repo.specs.Seens.{is_of_document}
 use Rattle.repo_model.specs.Data.{Kept, Proxy, Row}
-use Rattle.repo_model.specs.Proxies.{asks_never, decided, document_step, is_marked, kept_at, step_for, step_out, subject_of}
-use Rattle.repo_model.specs.State.{is_mark, row_at}
+use Rattle.repo_model.specs.Proxies.{asks_never, decided, document_step, is_fresh_negative, kept_at, step_for, step_out, subject_of}
+use Rattle.repo_model.specs.State.{is_negative_of, row_at}
 use Rattle.repo_model.specs.Turn.{document_shown, file_shown, or_nothing, served_by}
 use Rattle.repo_model.specs.declared.step.Step.TheVariants.{Serve, Missed, Blocked, Negative, Never, Fetch}
 use Rattle.repo_parts.specs.Looks.{document_kind}
@@ -25,15 +25,15 @@ of-document d None = refl
 of-document d (Some side) = refl
 
 -- what goes out to the remote does not serve
-out-cases : (tried never marked : Bool) → (if tried then Missed else if never then Never else if marked then Negative else Fetch) ≢ Serve
-out-cases true never marked is = cc
-out-cases false true marked is = cc
+out-cases : (tried never known_missing : Bool) → (if tried then Missed else if never then Never else if known_missing then Negative else Fetch) ≢ Serve
+out-cases true never known_missing is = cc
+out-cases false true known_missing is = cc
 out-cases false false true is = cc
 out-cases false false false is = cc
 
 module _ (p : Proxy) (now : ℕ) (tried : Bool) (at : List ℕ) where
   out-not : step_out p now tried at ≢ Serve
-  out-not is = out-cases tried (asks_never p.rule.update) (is_marked p.rule.negative_seconds now (find (is_mark at) p.marks)) is
+  out-not is = out-cases tried (asks_never p.rule.update) (is_fresh_negative p.rule.negative_seconds now (find (is_negative_of at) p.negatives)) is
 
   step-is : decided p now tried at ≡ Serve → step_for p now tried at (kind at) ≡ Serve
   step-is is = elim (is_let_through p.rule.allow p.rule.block at) as (λ b. (if b then step_for p now tried at (kind at) else Blocked) ≡ Serve → step_for p now tried at (kind at) ≡ Serve) [

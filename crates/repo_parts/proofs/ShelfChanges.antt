@@ -23,7 +23,7 @@ use Rattle.hosted_repo.proofs.Expiry.{dropped}
 use Rattle.kept_docs.proofs.Beside.{document_after_first, document_elsewhere, document-with_row}
 use Rattle.repo_model.specs.Data.{Blob, Hosted, Kept, Proxy, Row, Session}
 use Rattle.repo_model.specs.Document.{document}
-use Rattle.repo_model.specs.Effect.{caches, clears_mark, fades, keeps_doc, list_again, marks_missing, new_row, proxies_after, proxy_after, with_kept}
+use Rattle.repo_model.specs.Effect.{caches, clears_negative, fades, keeps_doc, list_again, adds_negative, new_row, proxies_after, proxy_after, with_kept}
 use Rattle.repo_model.specs.Fetched.{Landing, got_doc, got_file}
 use Rattle.repo_model.specs.Proxies.{kept_at, settled_at}
 use Rattle.repo_model.specs.Reply.{Reply, created, ended, is_free, relisted, unlisted}
@@ -250,11 +250,11 @@ module _ (d : Directory) where
   caches-same : (at path : List ℕ) (blob : Blob) (moment : ℕ) (proxies : List Proxy) → Same proxies (proxies_after (caches at path blob moment) proxies)
   caches-same at path blob moment proxies id = kept-or d id at (λ p. proxy_after (caches at path blob moment) p) proxies (λ p. refl) (λ p. refl)
 
-  marks-same : (at path : List ℕ) (moment : ℕ) (proxies : List Proxy) → Same proxies (proxies_after (marks_missing at path moment) proxies)
-  marks-same at path moment proxies id = kept-or d id at (λ p. proxy_after (marks_missing at path moment) p) proxies (λ p. refl) (λ p. refl)
+  negatives-same : (at path : List ℕ) (moment : ℕ) (proxies : List Proxy) → Same proxies (proxies_after (adds_negative at path moment) proxies)
+  negatives-same at path moment proxies id = kept-or d id at (λ p. proxy_after (adds_negative at path moment) p) proxies (λ p. refl) (λ p. refl)
 
-  clears-same : (at path : List ℕ) (proxies : List Proxy) → Same proxies (proxies_after (clears_mark at path) proxies)
-  clears-same at path proxies id = kept-or d id at (λ p. proxy_after (clears_mark at path) p) proxies (λ p. refl) (λ p. refl)
+  clears-same : (at path : List ℕ) (proxies : List Proxy) → Same proxies (proxies_after (clears_negative at path) proxies)
+  clears-same at path proxies id = kept-or d id at (λ p. proxy_after (clears_negative at path) p) proxies (λ p. refl) (λ p. refl)
 
   -- a document at another path
   keeps-same : (at path : List ℕ) (document : Document) (moment : ℕ) (proxies : List Proxy) → bytes_eq path (text_of_document d) ≡ false → Same proxies (proxies_after (keeps_doc at path document moment) proxies)
@@ -272,7 +272,7 @@ module _ (d : Directory) where
   file-same plan blob now None proxies id =
       clears-same plan.proxy plan.path (proxies_after (caches plan.proxy plan.path blob now) proxies) id ∙ caches-same plan.proxy plan.path blob now proxies id
   file-same plan blob now (Some row) proxies id =
-      up-same plan.draft (proxies_after (clears_mark plan.proxy plan.path) proxies) id ∙ clears-same plan.proxy plan.path proxies id
+      up-same plan.draft (proxies_after (clears_negative plan.proxy plan.path) proxies) id ∙ clears-same plan.proxy plan.path proxies id
 
   landing-same : (files : List Row) (now : ℕ) (plan : Plan) (landing : Landing) (proxies : List Proxy) → gone_by_landing plan.path (is_of_document landing) false (text_of_directory d) ≡ false
       → Same proxies (proxies_after_all (lands_by files now plan landing) proxies)
@@ -283,7 +283,7 @@ module _ (d : Directory) where
       false_from_ne_true (bytes_eq plan.path (text_of_document d)) (λ here. let wrong : true ≡ false = sym (document-above d plan.path here) ∙ not_gone in cc) in
       clears-same plan.proxy plan.path (proxies_after (keeps_doc plan.proxy plan.path kept now) proxies) id ∙ keeps-same plan.proxy plan.path kept now proxies past id
   landing-same files now plan Gone proxies not_gone id =
-      up-same plan.draft (proxies_after (marks_missing plan.proxy plan.path now) proxies) id ∙ marks-same plan.proxy plan.path now proxies id
+      up-same plan.draft (proxies_after (adds_negative plan.proxy plan.path now) proxies) id ∙ negatives-same plan.proxy plan.path now proxies id
   landing-same files now plan landing proxies not_gone id = up-same plan.draft proxies id
 
 -- what came of a fetch landed at a proxy, or nothing did

@@ -18,7 +18,7 @@ abbrev pub yard_drawn : Reply → Yard → Yard
 yard_drawn (draft n) yard = yard_after draws yard
 yard_drawn reply yard = yard
 
--- the reply is the one that is due, or want of memory, and the number was drawn with it
+-- the reply is the one that is due, or out of memory, and the number was drawn with it
 abbrev pub Draws : Reply → Yard → Yard → Type 0
 Draws reply old new = ((reply ≡ (draws_draft old.next_draft).reply) ⊎ (reply ≡ no_memory)) × (new ≡ yard_drawn reply old)
 

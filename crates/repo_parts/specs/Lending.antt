@@ -14,6 +14,6 @@ module _ (H : RattleType) (g : held.Ghosts H.Denot) where
   abbrev repos_row : RattleType
   repos_row = vec.the_row (the_row H g) global.the_row ghosts
 
-  -- the last value behind r stands in the place of the repository of the id, and the others stay
+  -- the last value after r stands in the place of the repository of the id, and the others stay
   abbrev pub LendsRepository : MutBor repos_row.Denot → List ℕ → MutBor (the_row H g).Denot → Fml
   LendsRepository repos id r = Lends repos_row (the_row H g) repos r (with_item repos.now (position_or_len (is_repository id) repos.now.items))

@@ -41,7 +41,7 @@ pub record HasGoods (s : State) (hosted : List plain.Hosted) (proxies : List pla
   pub hosted_so : s.hosted ≡ hosted
   pub proxies_so : s.proxies ≡ proxies
 
--- the reply that is due, or want of memory
+-- the reply that is due, or out of memory
 abbrev pub IsDueOr : Reply → Reply → Type 0
 IsDueOr due reply = (reply ≡ due) ⊎ (reply ≡ no_memory)
 

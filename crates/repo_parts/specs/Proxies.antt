@@ -36,7 +36,7 @@ abbrev pub proxies_after_all : List Effect → List Proxy → List Proxy
 proxies_after_all [] proxies = proxies
 proxies_after_all (e ∷ effects) proxies = proxies_after_all effects (proxies_after e proxies)
 
--- The effects are recorded and done, and answered as theirs; or, where the records failed or memory was wanting, none of them is.
+-- The effects are recorded and done, and answered as theirs; or, where the records failed or memory ran out, none of them is.
 pub record LandsIn (effects : List Effect) (old new : List Proxy) (told told_then : Option Tables) (faults faults_then : ℕ) (answer : Landed) : Type 0 where
   pub answered : (answer ≡ answer_of effects) ⊎ IsTrue (has_failed answer)
   pub asked : answer ≡ StoreFault → recorded effects ≢ []

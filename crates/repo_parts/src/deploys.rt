@@ -15,7 +15,7 @@ ghost use Rattle.repo_model.specs.Shown.{shown_reply};
 ghost use Rattle.repo_model.specs.State.{State, is_among, is_open_at, is_repository, is_session, number_end};
 ghost use Rattle.repo_model.specs.Turn.{judged, may_put_in, staged_at, with_open};
 ghost use Rattle.row_tables.specs.Commits.{tables_with};
-ghost use Rattle.row_tables.specs.Stops.{HasReplyStop};
+ghost use Rattle.row_tables.specs.Crashes.{HasReplyCrash};
 ghost use Rattle.repo_parts.specs.Purge.{AreKeptOnce, condemned_by, kept_without};
 ghost use Rattle.repo_parts.specs.Deploys.{Draws, commit_in, drawn_unless, hosted_after_all, kept_staged, yard_opened, yard_staged};
 
@@ -217,7 +217,7 @@ pub fn commit<H: Held, K: Records>(
     ensures tables { K.tables records.new ≡ (if is_free (shown_commit result) then K.tables records.old
         else tables_with (recorded (commit_in session now sessions.old.sessions repos.old.items).effects) (K.tables records.old)) }
     ensures cause { HasReplyCause (K.faults records.old) (K.faults records.new) (shown_commit result) }
-    ensures stops { HasReplyStop (recorded (commit_in session now sessions.old.sessions repos.old.items).effects)
+    ensures crashes { HasReplyCrash (recorded (commit_in session now sessions.old.sessions repos.old.items).effects)
         (K.tables records.old) (K.unsettled records.old) (K.unsettled records.new) (shown_commit result) }
     ensures ready { K.ready records.new }
 {

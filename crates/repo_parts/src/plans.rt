@@ -69,7 +69,7 @@ fn under_draft<H: Held>(yard: &mut Yard, plan: Plan) -> Reply<H>
 }
 
 /// What is to be fetched of the remote of a proxy, which stands at this place of a group or is asked itself: a file under the next
-/// draft, or a document under none. The texts are copied first, so that where memory is wanting no draft is drawn.
+/// draft, or a document under none. The texts are copied first, so that when memory runs out no draft is drawn.
 pub fn plan_fetch<H: Held>(
     alloc: Global,
     settings: &Settings,

@@ -9,7 +9,7 @@ ghost use Rattle.repo_model.specs.History.{latest_moment};
 ghost use Rattle.repo_model.specs.Shown.{outcome_map, shown_got};
 ghost use Rattle.repo_model.specs.State.{is_proxy};
 ghost use Rattle.row_tables.specs.Items.{is_number};
-ghost use Rattle.row_tables.specs.Stops.{HasReplyStop};
+ghost use Rattle.row_tables.specs.Crashes.{HasReplyCrash};
 ghost use Rattle.proxy_rules.specs.Landings.{shown_landed};
 ghost use Rattle.ordered_rows.specs.Recording.{FitWhereTold};
 ghost use Rattle.repo_parts.specs.Proxies.{LandsIn, landing_in};
@@ -64,7 +64,7 @@ pub fn land<H: Held, K: Records>(
     requires draft { ForSome plan.now.draft (λ n. IsTrue (is_number n)) }
     requires fits { FitWhereTold (K.tables records.old) (recorded (landing_in proxies.old.items moment plan.now outcome)) }
     ensures lands { LandsIn (landing_in proxies.old.items moment plan.now outcome) proxies.old.items proxies.new.items (K.tables records.old) (K.tables records.new) (K.faults records.old) (K.faults records.new) result }
-    ensures stops { HasReplyStop (recorded (landing_in proxies.old.items moment plan.now outcome)) (K.tables records.old) (K.unsettled records.old) (K.unsettled records.new) (shown_landed result) }
+    ensures crashes { HasReplyCrash (recorded (landing_in proxies.old.items moment plan.now outcome)) (K.tables records.old) (K.unsettled records.old) (K.unsettled records.new) (shown_landed result) }
     ensures ready { K.ready records.new }
 {
     match place_of(proxies, plan.proxy.as_str()) {

@@ -7,7 +7,7 @@ ghost use Rattle.repo_model.specs.History.{latest_moment};
 use mvn_coords::Stamp;
 use outside::Clock;
 
-/// The moment of a turn: what the clock gives, but no moment before the last turn's, and none behind
+/// The moment of a turn: what the clock gives, but no moment before the last turn's, and none after
 /// `Stamp::LAST_MOMENT`. Reads the clock once.
 pub fn next_moment<C: Clock>(clock: &mut C, last: u64) -> u64
     requires { last ≤ latest_moment }

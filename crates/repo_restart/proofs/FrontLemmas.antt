@@ -1,4 +1,4 @@
--- A row behind rows that came back: they come before it, and none of them has its blob.
+-- A row after rows that came back: they come before it, and none of them has its blob.
 use native.Mathlib.Omega.{arith}
 use Rattle.std.proofs.Common.{◌≡◌, ℕ, ◌≤◌, Bool, true, false, cond, List, [], ◌∷◌, ◌++◌, map, filter, find, Option, Some, None, Ordering, Less, Equal, refl, sym, ap, ◌∙◌, nat_cmp, bytes_eq}
 use Rattle.std.specs.Prelude.{◌==◌, count_by}

@@ -32,7 +32,7 @@ pub among-permutation : (xs ys : List ℕ) → IsPermutation xs ys → (n : ℕ)
 among-permutation xs ys same n =
     any-count (λ m. m == n) ys ∙ ap (nat_lt 0) (sum_by-IsPermutation (λ m. cond (m == n) 1 0) xs ys same) ∙ sym (any-count (λ m. m == n) xs)
 
--- a number that lies behind some and before the others is none of them
+-- a number that lies after some and before the others is none of them
 apart-from : (xs : List ℕ) (n i : ℕ) → ((k : ℕ) → k < i → get_or xs k 0 < n) → ((k : ℕ) → i ≤ k → k < length xs → n < get_or xs k 0) → (k d : ℕ) → k < length xs
     → (get_or xs k d == n) ≡ false
 apart-from xs n i below above k d inside =

@@ -114,10 +114,10 @@ made-of tells rows (rule ∷ rules) (p ∷ proxies) made others =
     let other : bare p ≡ new_proxy rule = head-same (bare p) (new_proxy rule) (map bare proxies) (map new_proxy rules) others in
     let same_rule : p.rule ≡ rule = ap (λ (q : Proxy). q.rule) other in
     let same_documents : p.documents ≡ [] = ap (λ (q : Proxy). q.documents) other in
-    let same_marks : p.marks ≡ [] = ap (λ (q : Proxy). q.marks) other in
+    let same_negatives : p.negatives ≡ [] = ap (λ (q : Proxy). q.negatives) other in
     let rest = made-of tells rows rules proxies (rest-same (as_hosted p) (hosted_from tells rows (as_rule rule)) (map as_hosted proxies) (map (hosted_from tells rows) (map as_rule rules)) made)
     (rest-same (bare p) (new_proxy rule) (map bare proxies) (map new_proxy rules) others) in
-    λ i. record { rule = same_rule i; files = files i; documents = same_documents i; marks = same_marks i } ∷ rest i
+    λ i. record { rule = same_rule i; files = files i; documents = same_documents i; negatives = same_negatives i } ∷ rest i
 
 pub files-restored : (shelf : Shelf) (rows : List RecordedRow) (rules : List ProxyRule) (proxies : List Proxy) → CachedSoFar shelf rows rules proxies → AreFilesRestored shelf rows rules proxies
 files-restored shelf rows rules proxies all = record {

@@ -99,7 +99,7 @@ module _ (t : Tables) (apart : (n : ℕ) → named_in t n ≤ 1) (a b : ℕ → 
   proxies-same [] = refl
   proxies-same (rule ∷ rules) =
       let files = files-same rule.id in
-      λ i. record { rule = rule; files = files i; documents = documents_of t.documents rule.id; marks = [] } ∷ proxies-same rules i
+      λ i. record { rule = rule; files = files i; documents = documents_of t.documents rule.id; negatives = [] } ∷ proxies-same rules i
 
   stand-both : (blobs : Option Numbered) → IfSome blobs (λ them. (n : ℕ) → a n ≡ bytes_at n them) → IfSome blobs (λ them. (n : ℕ) → b n ≡ bytes_at n them)
       → IfSome blobs (λ them. (n : ℕ) → both n ≡ bytes_at n them)

@@ -41,7 +41,7 @@ pub struct Restored<H: Held> {
 /// read once and compared with what was recorded, and at the first that differs, or is not there, the call ends with
 /// `Damaged` and has changed nothing. A file of a repository that has no rule is looked at and let go. Documents then come back to
 /// their proxies, each written anew for its digests; one of a proxy that has no rule stays in the tables alone. Then the blobs that
-/// no row names are removed, in the order of the store; where that fails, or memory is wanting, the first ones of these are gone
+/// no row names are removed, in the order of the store; where that fails, or memory runs out, the first ones of these are gone
 /// and no others. `Store` comes where the store failed.
 ///
 /// Beside rows, documents and numbers it holds the bytes of one blob at a time. It passes once over the rows, once over the

@@ -8,8 +8,8 @@ use Rattle.repo_routes.specs.Judge.{check_body, in_repo, intent_of, into_session
 use Rattle.repo_routes.specs.Numbers.{number_in, session_of}
 use Rattle.repo_routes.specs.Paths.{check_limit, decoded, limit_of, path_refusal, put_at, put_to, read_from, thing_at}
 use Rattle.repo_routes.specs.Routes.{check_method, check_repository, named_route, number_route, repository_route, route_at, route_of, session_route, sessions_route, sort_of}
-use Rattle.repo_routes.specs.Target.{origin_form, path_behind, target_path, without_query}
+use Rattle.repo_routes.specs.Target.{origin_form, path_after, target_path, without_query}
 
 unfoldable pub routes_on_literals : ⊤
-unfolding http_wire_on_literals percent_decode parts_of asks_continue check_host ends_connection expects_continue has_body is_head is_post is_put is_read length_of check_body in_repo intent_of into_session judge of_session number_in session_of check_limit decoded limit_of path_refusal put_at put_to read_from thing_at check_method check_repository named_route number_route repository_route route_at route_of session_route sessions_route sort_of origin_form path_behind target_path without_query
+unfolding http_wire_on_literals percent_decode parts_of asks_continue check_host ends_connection expects_continue has_body is_head is_post is_put is_read length_of check_body in_repo intent_of into_session judge of_session number_in session_of check_limit decoded limit_of path_refusal put_at put_to read_from thing_at check_method check_repository named_route number_route repository_route route_at route_of session_route sessions_route sort_of origin_form path_after target_path without_query
 routes_on_literals = tt

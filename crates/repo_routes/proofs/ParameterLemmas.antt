@@ -46,7 +46,7 @@ cuts-none : (text : List ℕ) → has_slash text ≡ false → cuts text (47 ∷
 cuts-none text clean = and-false _ _ (no-last text clean)
 
 module _ {K : Type 0} where
-  -- each row behind a slash, and behind a parameter and a slash
+  -- each row after a slash, and after a parameter and a slash
   below : RowsOf K → RowsOf K
   below [] = []
   below ((t, key) ∷ rows) = (47 ∷ t, key) ∷ below rows
@@ -179,9 +179,9 @@ module _ {K : Type 0} where
   step-empty rows rest =
       step-is (below rows) (47 ∷ rest) ∙ ap (λ suffix. step_by suffix (below rows) (47 ∷ rest)) (longest-none (47 ∷ []) rows refl)
 
-  found-behind : (rows : RowsOf K) (b : ℕ) (path : List ℕ) (found : Option K) → seek ((param_step (below rows) (b ∷ path)).0 - 1) (param_step (below rows) (b ∷ path)).1 path ≡ found
+  found-after : (rows : RowsOf K) (b : ℕ) (path : List ℕ) (found : Option K) → seek ((param_step (below rows) (b ∷ path)).0 - 1) (param_step (below rows) (b ∷ path)).1 path ≡ found
       → (seek 0 (below rows) path ≡ None) ⊎ (seek 0 (below rows) path ≡ found) → seek 0 (parameter rows) (b ∷ path) ≡ found
-  found-behind rows b path found e either_way =
+  found-after rows b path found e either_way =
       parameter-cons rows b path
       ∙ ap (λ f. or_else (seek 0 (cond (param_token == b) (below rows) []) path) (or_else f None)) e
       ∙ either rows (param_token == b) path found either_way
@@ -194,10 +194,10 @@ module _ {K : Type 0} where
   one-less : (rows : RowsOf K) (b : ℕ) (text path : List ℕ) → seek (length (b ∷ text) - 1) rows path ≡ seek (length text) rows path
   one-less rows b text path = let e : length (b ∷ text) - 1 ≡ length text = omega arith in ap (λ n. seek n rows path) e
 
-  behind-id : (rows : RowsOf K) (id rest : List ℕ) → has_slash id ≡ false
+  after-id : (rows : RowsOf K) (id rest : List ℕ) → has_slash id ≡ false
       → (seek 0 (below rows) (id ++ 47 ∷ rest) ≡ None) ⊎ (seek 0 (below rows) (id ++ 47 ∷ rest) ≡ seek 0 rows rest)
-  behind-id rows [] rest clean = inr (at-slash rows rest)
-  behind-id rows (b ∷ id) rest clean =
+  after-id rows [] rest clean = inr (at-slash rows rest)
+  after-id rows (b ∷ id) rest clean =
       let parts = neither (b == 47) (has_slash id) clean in
       inl (before-slash rows b (id ++ 47 ∷ rest) parts.0)
 
@@ -212,15 +212,15 @@ module _ {K : Type 0} where
   with-slash t key rows (b ∷ id) rest clean =
       let all : RowsOf K = (t, key) ∷ rows in
       let parts = neither (b == 47) (has_slash id) clean in
-      found-behind all b (id ++ 47 ∷ rest) (seek 0 all rest)
+      found-after all b (id ++ 47 ∷ rest) (seek 0 all rest)
       (ap (λ (s : ℕ × RowsOf K). seek (s.0 - 1) s.1 (id ++ 47 ∷ rest)) (step-slash t key rows b id rest clean)
       ∙ one-less (below all) b id (id ++ 47 ∷ rest) ∙ skip (below all) id (47 ∷ rest) ∙ at-slash all rest)
-      (behind-id all id rest parts.1)
+      (after-id all id rest parts.1)
 
-  behind-text : (rows : RowsOf K) (text : List ℕ) → has_slash text ≡ false → seek 0 (below rows) text ≡ None
+  after-text : (rows : RowsOf K) (text : List ℕ) → has_slash text ≡ false → seek 0 (below rows) text ≡ None
   unfolding seek
-  behind-text rows [] clean = own-below rows
-  behind-text rows (b ∷ text) clean =
+  after-text rows [] clean = own-below rows
+  after-text rows (b ∷ text) clean =
       let parts = neither (b == 47) (has_slash text) clean in before-slash rows b text parts.0
 
   pub without-slash : (rows : RowsOf K) (text : List ℕ) → has_slash text ≡ false → seek 0 (parameter rows) text ≡ None
@@ -228,7 +228,7 @@ module _ {K : Type 0} where
   without-slash rows [] clean = own-parameter rows
   without-slash rows (b ∷ text) clean =
       let parts = neither (b == 47) (has_slash text) clean in
-      found-behind rows b text None
+      found-after rows b text None
       (ap (λ (s : ℕ × RowsOf K). seek (s.0 - 1) s.1 text) (step-whole rows (b ∷ text) clean)
       ∙ one-less (below rows) b text text ∙ skip-all rows text)
-      (inl (behind-text rows text parts.1))
+      (inl (after-text rows text parts.1))

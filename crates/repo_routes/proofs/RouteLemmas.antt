@@ -75,7 +75,7 @@ last-by path None p cut e = cc
 last-by path (Some text) p cut e =
     subst (λ (q : Pattern). repository_route text ≡ route_by q path) (repository-pattern text p e) (sym (rw cut refl))
 
--- a path by whether it is that of a cleaning, and what is behind the words
+-- a path by whether it is that of a cleaning, and what is after the words
 abbrev by_parts : Bool → Option (List ℕ) → Option (List ℕ) → Option (List ℕ) → Option Route
 by_parts is_clean opening session repository =
     cond is_clean (Some clean) (option_map_or sessions_route opening (option_map_or session_route session (option_and_then repository_route repository)))

@@ -19,7 +19,7 @@ pub neither : (a b : Bool) → cond a true b ≡ false → (a ≡ false) × (b �
 neither true b e = cc
 neither false b e = (refl, e)
 
--- what is left of a path behind a word
+-- what is left of a path after a word
 unfoldable pub strip : List ℕ → List ℕ → Option (List ℕ)
 strip [] path = Some path
 strip (x ∷ word) [] = None
@@ -157,7 +157,7 @@ module _ {K : Type 0} where
   catch-all key [] = refl
   catch-all key (b ∷ rest) = catch-all-byte key b rest
 
-  -- each row behind a word
+  -- each row after a word
   unfoldable pub front : List ℕ → RowsOf K → RowsOf K
   front word [] = []
   front word ((t, key) ∷ rows) = (word ++ t, key) ∷ front word rows
@@ -170,7 +170,7 @@ module _ {K : Type 0} where
   none-is [] e = refl
   none-is (row ∷ rows) e = cc
 
-  -- no row begins with the word, nor with a part of it behind which it goes on by a parameter or a catch-all
+  -- no row begins with the word, nor with a part of it after which it goes on by a parameter or a catch-all
   abbrev pub is_apart : List ℕ → RowsOf K → Bool
   is_apart [] rows = is_none rows
   is_apart (x ∷ word) rows = is_none (step param_token rows) && (is_none (step catch_all_token rows) && is_apart word (step x rows))
@@ -192,13 +192,13 @@ module _ {K : Type 0} where
   step-front x word b ((t, key) ∷ rows) others same =
       rw same (ap (λ (all : RowsOf K). (word ++ t, key) ∷ all) (step-front x word b rows others same))
 
-  step-behind : (x : ℕ) (word : List ℕ) (b : ℕ) (rows others : RowsOf K) → (x == b) ≡ false
+  step-after : (x : ℕ) (word : List ℕ) (b : ℕ) (rows others : RowsOf K) → (x == b) ≡ false
       → step b (front (x ∷ word) rows ++ others) ≡ step b others
   unfolding front
-  step-behind x word b [] others other = refl
-  step-behind x word b ((t, key) ∷ rows) others other = rw other (step-behind x word b rows others other)
+  step-after x word b [] others other = refl
+  step-after x word b ((t, key) ∷ rows) others other = rw other (step-after x word b rows others other)
 
-  -- one byte of a word, where the paths behind it are known
+  -- one byte of a word, where the paths after it are known
   front-byte : (x : ℕ) (word : List ℕ) (rows others : RowsOf K) (b : ℕ) (path : List ℕ) (test : Bool) → (x == b) ≡ test → nat_lt x 256 ≡ true
       → is_apart (x ∷ word) others ≡ true
       → ((o : RowsOf K) → is_apart word o ≡ true → seek 0 (front word rows ++ o) path ≡ option_map_or (λ rest. seek 0 rows rest) (strip word path) (seek 0 o path))
@@ -211,7 +211,7 @@ module _ {K : Type 0} where
       let parameters = none-is (step param_token others) first.0 in
       let catch_alls = none-is (step catch_all_token others) second.0 in
       let all : RowsOf K = front (x ∷ word) rows ++ others in
-      seek-byte all b path (step-behind x word param_token rows others no_parameter ∙ parameters) (step-behind x word catch_all_token rows others no_catch_all ∙ catch_alls)
+      seek-byte all b path (step-after x word param_token rows others no_parameter ∙ parameters) (step-after x word catch_all_token rows others no_catch_all ∙ catch_alls)
       ∙ by-test test e second.1
       ∙ ap (λ found. option_map_or (λ rest. seek 0 rows rest) (cond test (strip word path) None) found) (sym (seek-byte others b path parameters catch_alls))
     where
@@ -221,9 +221,9 @@ module _ {K : Type 0} where
       by-test true same rest =
           let it : x ≡ b = grind (arith, nat_tests) in
           ap (λ (o : RowsOf K). seek 0 o path) (step-front x word b rows others same) ∙ later (step b others) (ap (λ (n : ℕ). is_apart word (step n others)) (sym it) ∙ rest)
-      by-test false other rest = ap (λ (o : RowsOf K). seek 0 o path) (step-behind x word b rows others other)
+      by-test false other rest = ap (λ (o : RowsOf K). seek 0 o path) (step-after x word b rows others other)
 
-  -- a path goes on behind the word, or is that of the other rows
+  -- a path goes on after the word, or is that of the other rows
   pub front-first : (word : List ℕ) (rows others : RowsOf K) (path : List ℕ) → is_word word ≡ true → is_apart word others ≡ true
       → seek 0 (front word rows ++ others) path ≡ option_map_or (λ rest. seek 0 rows rest) (strip word path) (seek 0 others path)
   unfolding is_word strip seek

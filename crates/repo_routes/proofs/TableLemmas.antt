@@ -28,7 +28,7 @@ rest-cons b text e =
     let s : 1 + position_or_len is_slash text + 1 ≡ suc (position_or_len is_slash text + 1) = omega arith in
     rw e (rw s refl)
 
--- a text has no slash and nothing behind it, or is cut at its first slash
+-- a text has no slash and nothing after it, or is cut at its first slash
 abbrev IsCut : List ℕ → Type 0
 IsCut text =
     ((has_slash text ≡ false) × (rest_of text ≡ [])) ⊎ ((text ≡ part_of text ++ 47 ∷ rest_of text) × (has_slash (part_of text) ≡ false))
@@ -57,13 +57,13 @@ unfolding filled
 filled-length [] = refl
 filled-length (b ∷ text) = sym (let positive : 0 < length (b ∷ text) = omega arith in grind (arith, nat_tests))
 
-strip-behind : (word path : List ℕ) → strip word path ≡ behind word path
+strip-after : (word path : List ℕ) → strip word path ≡ behind word path
 unfolding strip
-strip-behind [] path = refl
-strip-behind (x ∷ word) [] = refl
-strip-behind (x ∷ word) (b ∷ path) =
+strip-after [] path = refl
+strip-after (x ∷ word) [] = refl
+strip-after (x ∷ word) (b ∷ path) =
     elim (x == b) as (λ same. cond same (strip word path) None ≡ cond (same && pointwise nat_eq word (take (length word) path)) (Some (drop (length word) path)) None) [
-      | true ↦ strip-behind word path
+      | true ↦ strip-after word path
       | false ↦ refl
     ]
 
@@ -81,7 +81,7 @@ module _ {K : Type 0} where
   by-parts t key rows text bare (inr p) =
       ap (λ x. seek 0 (parameter ((t, key) ∷ rows)) x) p.0 ∙ with-slash t key rows (part_of text) (rest_of text) p.1
 
-  -- rows behind a parameter go on behind its slash
+  -- rows after a parameter go on after its slash
   parts-rows : (t : List ℕ) (key : K) (rows : RowsOf K) (text : List ℕ) → own ((t, key) ∷ rows) ≡ None
       → seek 0 (parameter ((t, key) ∷ rows)) text ≡ cond (nat_lt 0 (length (part_of text))) (seek 0 ((t, key) ∷ rows) (rest_of text)) None
   parts-rows t key rows text bare =
@@ -93,7 +93,7 @@ Found = Option (RouteOf Pattern)
 abbrev value_of : Found → Option Pattern
 value_of found = option_map (λ e. e.value) found
 
--- the rows behind the words
+-- the rows after the words
 abbrev path_rows : RouteOf Pattern → RowsOf (RouteOf Pattern)
 path_rows r = (catch_all_token ∷ [], r) ∷ []
 
@@ -109,7 +109,7 @@ word-by : (s : RouteOf Pattern) (test : Bool) (other : Found) (here : Route) (ro
 word-by s true other here route e same = ap (λ v. Some v) e
 word-by s false other here route e same = same
 
--- behind a repository's id
+-- after a repository's id
 repository-found : (r : RouteOf Pattern) (text : List ℕ) → r.value ≡ pattern.Repository
     → value_of (seek 0 (parameter (path_rows r)) text) ≡ option_map pattern_of (repository_route text)
 unfolding repository_route
@@ -150,7 +150,7 @@ files-found f number (Some written) e =
     by-test true = ap (λ v. Some v) e
     by-test false = refl
 
--- behind a session's number
+-- after a session's number
 number-found : (a m f : RouteOf Pattern) (number text : List ℕ) → a.value ≡ pattern.Abort → m.value ≡ pattern.Commit → f.value ≡ pattern.SessionFile
     → value_of (seek 0 (number_rows a m f) text) ≡ option_map pattern_of (number_route number text)
 unfolding number_route is_word
@@ -160,7 +160,7 @@ number-found a m f number text abort_row commit_row files_row =
     let one : seek 0 (number_rows a m f) text ≡ cond (bytes_eq text (codes "abort")) (Some a) (seek 0 words text) = word-first (codes "abort") a words text refl in
     let two : seek 0 words text ≡ cond (bytes_eq text (codes "commit")) (Some m) (seek 0 files text) = word-first (codes "commit") m files text refl in
     let three : seek 0 files text ≡ option_and_then (λ rest. seek 0 (path_rows f) rest) (behind (codes "files/") text) =
-    along (codes "files/") (catch_all_token ∷ []) f text refl ∙ ap (option_and_then (λ rest. seek 0 (path_rows f) rest)) (strip-behind (codes "files/") text) in
+    along (codes "files/") (catch_all_token ∷ []) f text refl ∙ ap (option_and_then (λ rest. seek 0 (path_rows f) rest)) (strip-after (codes "files/") text) in
     let below : value_of (seek 0 files text) ≡ option_map pattern_of (option_and_then (files_route number) (behind (codes "files/") text)) =
     ap value_of three ∙ files-found f number (behind (codes "files/") text) files_row in
     ap value_of one
@@ -178,12 +178,12 @@ session-found a m f text abort_row commit_row files_row =
     by-test true = number-found a m f (part_of text) (rest_of text) abort_row commit_row files_row
     by-test false = refl
 
--- behind a word, or else by the other rows
-behind-by : (rows : RowsOf (RouteOf Pattern)) (route : List ℕ → Option Route) (found : Option (List ℕ)) (other : Found) (rest : Option Route)
+-- after a word, or else by the other rows
+after-by : (rows : RowsOf (RouteOf Pattern)) (route : List ℕ → Option Route) (found : Option (List ℕ)) (other : Found) (rest : Option Route)
     → ((text : List ℕ) → value_of (seek 0 rows text) ≡ option_map pattern_of (route text)) → value_of other ≡ option_map pattern_of rest
     → value_of (option_map_or (λ text. seek 0 rows text) found other) ≡ option_map pattern_of (option_map_or route found rest)
-behind-by rows route None other rest same others = others
-behind-by rows route (Some text) other rest same others = same text
+after-by rows route None other rest same others = others
+after-by rows route (Some text) other rest same others = same text
 
 last-by : (rows : RowsOf (RouteOf Pattern)) (route : List ℕ → Option Route) (found : Option (List ℕ))
     → ((text : List ℕ) → value_of (seek 0 rows text) ≡ option_map pattern_of (route text))
@@ -211,21 +211,21 @@ table-routes c o a m f r clean_row sessions_row abort_row commit_row files_row r
     = word-first (codes "/api/clean") c others path refl in
     let two : seek 0 others path ≡ option_map_or (λ text. seek 0 (parameter (sessions_rows o)) text) (behind (codes "/api/repositories/") path) (seek 0 (session_rows a m f r) path)
     = front-first (codes "/api/repositories/") (parameter (sessions_rows o)) (session_rows a m f r) path refl refl
-    ∙ ap (λ found. option_map_or (λ text. seek 0 (parameter (sessions_rows o)) text) found (seek 0 (session_rows a m f r) path)) (strip-behind (codes "/api/repositories/") path) in
+    ∙ ap (λ found. option_map_or (λ text. seek 0 (parameter (sessions_rows o)) text) found (seek 0 (session_rows a m f r) path)) (strip-after (codes "/api/repositories/") path) in
     let three : seek 0 (session_rows a m f r) path ≡ option_map_or (λ text. seek 0 (parameter (number_rows a m f)) text) (behind (codes "/api/sessions/") path) (seek 0 (last_rows r) path)
     = front-first (codes "/api/sessions/") (parameter (number_rows a m f)) (last_rows r) path refl refl
-    ∙ ap (λ found. option_map_or (λ text. seek 0 (parameter (number_rows a m f)) text) found (seek 0 (last_rows r) path)) (strip-behind (codes "/api/sessions/") path) in
+    ∙ ap (λ found. option_map_or (λ text. seek 0 (parameter (number_rows a m f)) text) found (seek 0 (last_rows r) path)) (strip-after (codes "/api/sessions/") path) in
     let four : seek 0 (last_rows r) path ≡ option_map_or (λ text. seek 0 (parameter (path_rows r)) text) (behind (codes "/repository/") path) None
     = front-first (codes "/repository/") (parameter (path_rows r)) [] path refl refl
     ∙ ap (λ found. option_map_or (λ text. seek 0 (parameter (path_rows r)) text) (strip (codes "/repository/") path) found) (seek-none 0 path)
-    ∙ ap (λ found. option_map_or (λ text. seek 0 (parameter (path_rows r)) text) found None) (strip-behind (codes "/repository/") path) in
+    ∙ ap (λ found. option_map_or (λ text. seek 0 (parameter (path_rows r)) text) found None) (strip-after (codes "/repository/") path) in
     ap value_of one
     ∙ word-by c (bytes_eq path (codes "/api/clean")) (seek 0 others path) clean _ clean_row
     (ap value_of two
-    ∙ behind-by (parameter (sessions_rows o)) sessions_route (behind (codes "/api/repositories/") path) (seek 0 (session_rows a m f r) path) _
+    ∙ after-by (parameter (sessions_rows o)) sessions_route (behind (codes "/api/repositories/") path) (seek 0 (session_rows a m f r) path) _
     (λ text. sessions-found o text sessions_row)
     (ap value_of three
-    ∙ behind-by (parameter (number_rows a m f)) session_route (behind (codes "/api/sessions/") path) (seek 0 (last_rows r) path) _
+    ∙ after-by (parameter (number_rows a m f)) session_route (behind (codes "/api/sessions/") path) (seek 0 (last_rows r) path) _
     (λ text. session-found a m f text abort_row commit_row files_row)
     (ap value_of four
     ∙ last-by (parameter (path_rows r)) repository_route (behind (codes "/repository/") path) (λ text. repository-found r text repository_row))))

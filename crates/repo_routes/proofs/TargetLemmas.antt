@@ -1,4 +1,4 @@
--- The path behind an authority, by the place of its slash.
+-- The path after an authority, by the place of its slash.
 use Rattle.std.specs.List.{after_first, position_or_len}
 use Rattle.std.proofs.Common.{◌≡◌, ◌≢◌, ℕ, ◌<◌, ◌==◌, List, [], ◌∷◌, length, drop, get_or, arith, refl, ◌∙◌, add-one}
 use Rattle.std.proofs.lemmas.List.Sums.{position_or_len_is}

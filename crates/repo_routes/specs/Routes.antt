@@ -36,7 +36,7 @@ pub data Route : Type 0 where
   -- /api/{name}, the name being that of a question
   question : Question → Route
 
--- a path's part up to its first slash, and what is behind that
+-- a path's part up to its first slash, and what is after that
 abbrev pub part_of : List ℕ → List ℕ
 part_of text = before_first (λ b. b == 47) text
 
@@ -46,12 +46,12 @@ rest_of text = after_first (λ b. b == 47) text
 abbrev pub is_filled : List ℕ → Bool
 is_filled text = nat_lt 0 (length text)
 
--- the id and the path behind it; neither is empty
+-- the id and the path after it; neither is empty
 unfoldable pub repository_route : List ℕ → Option Route
 repository_route text =
     if is_filled (part_of text) && is_filled (rest_of text) then Some (in_repository (part_of text) (rest_of text)) else None
 
--- the id, and behind it this word alone
+-- the id, and after it this word alone
 unfoldable pub sessions_route : List ℕ → Option Route
 sessions_route text =
     if is_filled (part_of text) && bytes_eq (rest_of text) (codes "sessions") then Some (sessions (part_of text)) else None

@@ -18,7 +18,7 @@ step >> next = step >>= λ _. next
 abbrev pub need : Bool → Refusal → Result (Unit {0}) Refusal
 need test cause = if test then Ok tt else Err cause
 
--- a call gives the value or the refusal that the definition says, or memory was wanting
+-- a call gives the value or the refusal that the definition says, or memory ran out
 abbrev pub Gives : {A T : Type 0} → (T → A) → Result A Refusal → Result T code.Fault → Type 0
 Gives shown said (Ok value) = said ≡ Ok (shown value)
 Gives shown said (Err (fault.Refused cause)) = said ≡ Err cause

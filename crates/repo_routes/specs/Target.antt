@@ -6,15 +6,15 @@ use Rattle.byte_cuts.specs.Cuts.{behind}
 use Rattle.repo_routes.specs.declared.refusal.Refusal.{Refusal}
 use Rattle.repo_routes.specs.declared.refusal.Refusal.TheVariants as refusal
 
--- the path behind the authority: from the next `/` on; `/` where there is none
-unfoldable pub path_behind : List ℕ → List ℕ
-path_behind text = 47 ∷ after_first (λ b. b == 47) text
+-- the path after the authority: from the next `/` on; `/` where there is none
+unfoldable pub path_after : List ℕ → List ℕ
+path_after text = 47 ∷ after_first (λ b. b == 47) text
 
--- the target in origin form: what begins with `/`, and of `http://` the path behind its authority
+-- the target in origin form: what begins with `/`, and of `http://` the path after its authority
 unfoldable pub origin_form : List ℕ → Option (List ℕ)
 origin_form target =
     if starts_with nat_eq target (codes "/") then Some target
-    else option_map path_behind (behind (codes "http://") target)
+    else option_map path_after (behind (codes "http://") target)
 
 -- a `?` and what follows it is dropped
 unfoldable pub without_query : List ℕ → List ℕ

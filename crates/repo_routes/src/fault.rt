@@ -1,7 +1,7 @@
 use crate::refusal::Refusal;
 use std::alloc::AllocError;
 
-/// Why a head could not be judged to a request: it is refused, or memory was wanting.
+/// Why a head could not be judged to a request: it is refused, or memory ran out.
 #[derive(Drop)]
 pub enum Fault {
     Refused(Refusal),

@@ -69,7 +69,7 @@ fn ids_of(alloc: Global, rules: &[HostedRule]) -> Result<Texts, AllocError>
     Ok(Texts::from_vec(repos))
 }
 
-/// The ids of the hosted repositories, as written. The only error is want of memory.
+/// The ids of the hosted repositories, as written. The only error is out of memory.
 pub fn hosted_ids(alloc: Global, settings: &Settings) -> Result<Texts, AllocError>
     ensures { IfOk result (λ repos. repos ≡ spec.hosted_ids settings.now) }
 {
@@ -191,11 +191,11 @@ fn refusal_of(request: &Request, refusal: Refusal) -> Refused
     }
 }
 
-/// The request that a head makes, or its refusal, which is that of the first step that refuses. The only error is want of
-/// memory.
+/// The request that a head makes, or its refusal, which is that of the first step that refuses. The only error is
+/// out of memory.
 ///
 /// The steps are: the target (RFC 9112, section 3.2), the host, the length of the body (section 6.3), the route, its
-/// repository, the method, a body that does not belong to the method, the number of a session, the path behind its escapes,
+/// repository, the method, a body that does not belong to the method, the number of a session, the path after its escapes,
 /// and the limit of what is put there.
 #[tactic(auto, unfolding(crate::specs::Judge::judge))]
 pub fn judge(

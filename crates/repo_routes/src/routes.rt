@@ -38,7 +38,7 @@ pub(crate) enum Pattern {
 }
 
 /// The route of a path, with its parts as written: the id of a repository or the number of a session, and what stands
-/// behind it.
+/// after it.
 #[derive(Clone, Copy)]
 pub(crate) enum Route<'a> {
     InRepository { repo: &'a str, written: &'a str },
@@ -71,7 +71,7 @@ impl Model for Routes {
 }
 
 impl Routes {
-    /// The routes. The only error is want of memory.
+    /// The routes. The only error is out of memory.
     pub fn new(alloc: Global) -> Result<Routes, AllocError> {
         let mut router = Router::new(alloc);
         match add_routes(&mut router) {
@@ -130,7 +130,7 @@ fn route_by(pattern: Pattern, path: &str) -> Option<Route<'_>>
     }
 }
 
-/// The id of a repository and what stands behind it. Neither is empty.
+/// The id of a repository and what stands after it. Neither is empty.
 #[tactic(auto, unfolding(crate::specs::Routes::repository_route))]
 fn repository_route(text: &str) -> Option<Route<'_>>
     ensures { option_map spec.shown_route result ≡ spec.repository_route text.now }
@@ -142,7 +142,7 @@ fn repository_route(text: &str) -> Option<Route<'_>>
     Some(Route::InRepository { repo, written })
 }
 
-/// The id of a repository, behind which stands `sessions` alone.
+/// The id of a repository, after which stands `sessions` alone.
 #[tactic(auto, unfolding(crate::specs::Routes::sessions_route))]
 fn sessions_route(text: &str) -> Option<Route<'_>>
     ensures { option_map spec.shown_route result ≡ spec.sessions_route text.now }

@@ -7,10 +7,10 @@ ghost use Rattle.repo_routes.specs.Target as spec;
 use crate::refusal::Refusal;
 use byte_cuts::text::behind;
 
-/// The path behind an authority: from the next `/` on, and `/` where there is none.
-#[tactic(auto, unfolding(crate::specs::Target::path_behind))]
-fn path_behind(text: &str) -> &str
-    ensures { result.now ≡ spec.path_behind text.now }
+/// The path after an authority: from the next `/` on, and `/` where there is none.
+#[tactic(auto, unfolding(crate::specs::Target::path_after))]
+fn path_after(text: &str) -> &str
+    ensures { result.now ≡ spec.path_after text.now }
 {
     match text.find('/') {
         Some(at) => &text[at..],
@@ -18,7 +18,7 @@ fn path_behind(text: &str) -> &str
     }
 }
 
-/// The target in origin form: what begins with `/`, and of `http://` the path behind its authority.
+/// The target in origin form: what begins with `/`, and of `http://` the path after its authority.
 #[tactic(auto, unfolding(crate::specs::Target::origin_form), using(std::proofs::lemmas::Str::Pattern::starts_text))]
 fn origin_form(target: &str) -> Option<&str>
     ensures { option_copied result ≡ spec.origin_form target.now }
@@ -27,7 +27,7 @@ fn origin_form(target: &str) -> Option<&str>
         return Some(target);
     }
     let text = behind("http://", target)?;
-    Some(path_behind(text))
+    Some(path_after(text))
 }
 
 /// The target up to its query.

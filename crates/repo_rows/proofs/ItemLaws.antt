@@ -118,7 +118,7 @@ plain_form true = refl
 plain_form false = refl
 
 module _ (version : Version) where
-  -- an item made of the fields behind a tag
+  -- an item made of the fields after a tag
   made_takes : {A : Type 0} (tag : ℕ) (make : A → Item) (spell : A → List ℕ) (form : A → Bool) (field : Field A) → IsField spell form field
       → ((a : A) → item_bytes (make a) ≡ tag ∷ spell a) → ((a : A) → is_item_of version (make a) ≡ form a)
       → (rest : List ℕ) (x : Item × List ℕ) → IsBytes rest → (field rest >>= λ y. Ok (make y.0, y.1)) ≡ Ok x → Taken item_bytes (is_item_of version) (tag ∷ rest) x

@@ -39,7 +39,7 @@ are_sized [] all k d within = absurd (omega arith)
 are_sized (item ∷ items) all zero d within = item_sized item (both (is_item item) (list_all is_item items) all).0
 are_sized (item ∷ items) all (suc k) d within = are_sized items (both (is_item item) (list_all is_item items) all).1 k d (omega (arith, within))
 
--- what two calls write, one behind the other
+-- what two calls write, one after the other
 pub put_then : {T E : Type 0} (r : Result T E) (new old a b mid : List ℕ) → mid ≡ old ++ a → OnOk r (new ≡ mid ++ b) → OnOk r (new ≡ old ++ (a ++ b))
 put_then (Ok x) new old a b mid is then = then ∙ ap (λ l. l ++ b) is ∙ append_assoc old a b
 put_then (Err e) new old a b mid is then = tt

@@ -1,4 +1,4 @@
--- What a function that reads gives: what reading by the definition gives, unless memory is wanting.
+-- What a function that reads gives: what reading by the definition gives, unless memory runs out.
 use Rattle.std.specs.Prelude.{◌≡◌, ℕ, Result, Ok, Err}
 use Rattle.repo_rows.specs.declared.faults.ReadFault.{ReadFault}
 use Rattle.repo_rows.specs.declared.faults.ReadFault.TheVariants.{NoMemory, Refused}

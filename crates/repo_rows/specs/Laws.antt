@@ -5,7 +5,7 @@ use Rattle.row_tables.specs.Items.{IsChange, are_of, change_of}
 use Rattle.row_tables.specs.declared.version.Version.{Version}
 use Rattle.row_tables.specs.Reading.{taken}
 
--- what is written of items of a version is read again, whatever stands behind it
+-- what is written of items of a version is read again, whatever stands after it
 abbrev pub ReadsAgain : Type 0
 ReadsAgain = (version : Version) (items : List Item) (rest : List ℕ) → IsChange items → IsTrue (are_of version items)
     → taken (change_of version items ++ rest) ≡ Ok (items, length (change_of version items))

@@ -1,4 +1,4 @@
-//! What items have behind their tags.
+//! What items have after their tags.
 ghost use Rattle.std.specs.Prelude.{◌≡◌, IfOk};
 ghost use Rattle.repo_rows.specs.Given.{Gives};
 ghost use Rattle.row_tables.specs.Reading.{further_at, short_at, whole_at, print_at, file_at, kept_in, written_at, document_at, kept_at, result_at};

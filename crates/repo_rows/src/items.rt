@@ -20,7 +20,7 @@ fn read_dated(alloc: Global, bytes: &[u8]) -> Read<'_, (Place, u64)>
     Ok(((place, moment), rest))
 }
 
-// An item of a hosted repository behind its tag.
+// An item of a hosted repository after its tag.
 #[tactic(auto, unfolding(row_tables::specs::Reading::item_of))]
 fn hosted_behind(alloc: Global, version: Version, tag: u8, bytes: &[u8]) -> Read<'_, Item>
     requires { tag ≤ 4 }
@@ -65,9 +65,9 @@ fn hosted_behind(alloc: Global, version: Version, tag: u8, bytes: &[u8]) -> Read
     }
 }
 
-// The digests of a file behind their tag.
+// The digests of a file after their tag.
 #[tactic(auto, unfolding(row_tables::specs::Reading::digested_at))]
-fn digested_behind(alloc: Global, version: Version, bytes: &[u8]) -> Read<'_, Item>
+fn digested_after(alloc: Global, version: Version, bytes: &[u8]) -> Read<'_, Item>
     ensures { Gives (λ x. (x.0, x.1.now)) result (digested_at version bytes.now) }
 {
     match version {
@@ -87,9 +87,9 @@ fn digested_behind(alloc: Global, version: Version, bytes: &[u8]) -> Read<'_, It
     }
 }
 
-// An item behind its tag.
+// An item after its tag.
 #[tactic(auto, unfolding(row_tables::specs::Reading::item_of))]
-fn item_behind(alloc: Global, version: Version, tag: u8, bytes: &[u8]) -> Read<'_, Item>
+fn item_after(alloc: Global, version: Version, tag: u8, bytes: &[u8]) -> Read<'_, Item>
     ensures { Gives (λ x. (x.0, x.1.now)) result (item_of version tag bytes.now) }
 {
     match tag {
@@ -130,7 +130,7 @@ fn item_behind(alloc: Global, version: Version, tag: u8, bytes: &[u8]) -> Read<'
             let (result, rest) = read_result(rest)?;
             Ok((Item::SessionEnded { session, result }, rest))
         }
-        9 => digested_behind(alloc, version, bytes),
+        9 => digested_after(alloc, version, bytes),
         _ => Err(ReadFault::Refused(bytes.len() + 1)),
     }
 }
@@ -141,7 +141,7 @@ fn read_item(alloc: Global, version: Version, bytes: &[u8]) -> Read<'_, Item>
 {
     match bytes {
         [] => Err(ReadFault::Refused(0)),
-        [tag, rest @ ..] => item_behind(alloc, version, *tag, rest),
+        [tag, rest @ ..] => item_after(alloc, version, *tag, rest),
     }
 }
 

@@ -6,7 +6,7 @@ ghost use Rattle.row_tables.specs.Reading.{number_at, moment_at, count_at, seria
 
 use crate::faults::ReadFault;
 
-/// A field and the bytes behind it.
+/// A field and the bytes after it.
 pub type Read<'a, T> = Result<(T, &'a [u8]), ReadFault>;
 
 #[tactic(auto, unfolding(row_tables::specs::Reading::number_at))]

@@ -5,7 +5,7 @@ use crate::writing::put_items;
 use row_tables::Change;
 use std::alloc::{AllocError, Global};
 
-/// Where an item of a written change begins, items being counted from 0: behind the change's first 5 bytes and the items in
+/// Where an item of a written change begins, items being counted from 0: after the change's first 5 bytes and the items in
 /// front of it.
 pub fn start_of(alloc: Global, change: &Change, item: u64) -> Result<u64, AllocError>
     ensures { IfOk result (λ at. at ≡ length (change_bytes (take item change.now))) }

@@ -4,7 +4,7 @@ ghost use Rattle.std.specs.Int.{w64, to_be_bytes};
 ghost use Rattle.std.specs.List.{flat_map};
 ghost use Rattle.mvn_metadata.specs.Written.{text as text_of};
 ghost use Rattle.repo_rows.specs.Sizes.{IsSized, AreSized};
-ghost use Rattle.row_tables.specs.Items.{IsHosted, are_of, behind_sha1, further_bytes, text_bytes, document_bytes, print_bytes, result_bytes, place_bytes, file_bytes, item_bytes, change_bytes};
+ghost use Rattle.row_tables.specs.Items.{IsHosted, are_of, after_sha1, further_bytes, text_bytes, document_bytes, print_bytes, result_bytes, place_bytes, file_bytes, item_bytes, change_bytes};
 ghost use Rattle.row_tables.specs.declared.version.Version.TheVariants.{Second};
 
 use mvn_digest::{Further, Known};
@@ -46,9 +46,9 @@ fn put_further(out: &mut Vec<u8>, further: &Further) -> Result<(), AllocError>
     out.extend_from_slice(&further.sha512)
 }
 
-// What stands behind a file's SHA-1.
-fn put_behind_sha1(out: &mut Vec<u8>, known: &Known) -> Result<(), AllocError>
-    ensures { OnOk result (out.new.items ≡ out.old.items ++ behind_sha1 known.now.md5 known.now.further) }
+// What stands after a file's SHA-1.
+fn put_after_sha1(out: &mut Vec<u8>, known: &Known) -> Result<(), AllocError>
+    ensures { OnOk result (out.new.items ≡ out.old.items ++ after_sha1 known.now.md5 known.now.further) }
 {
     out.extend_from_slice(&known.md5)?;
     match &known.further {
@@ -62,10 +62,10 @@ fn put_print(out: &mut Vec<u8>, print: &Recorded) -> Result<(), AllocError>
 {
     put_number(out, print.length)?;
     out.extend_from_slice(&print.digests.sha1)?;
-    put_behind_sha1(out, &print.digests)
+    put_after_sha1(out, &print.digests)
 }
 
-// What a file's item has behind its place.
+// What a file's item has after its place.
 fn put_stored(
     out: &mut Vec<u8>,
     blob: u64,
@@ -88,7 +88,7 @@ fn put_document(alloc: Global, out: &mut Vec<u8>, document: &Doc) -> Result<(), 
     out.extend_from_slice(&written)
 }
 
-// What a document's item has behind its place.
+// What a document's item has after its place.
 fn put_kept(
     alloc: Global,
     out: &mut Vec<u8>,
@@ -117,7 +117,7 @@ fn put_result(out: &mut Vec<u8>, how: SessionResult) -> Result<(), AllocError>
     }
 }
 
-// The place of an item that has one, behind a tag.
+// The place of an item that has one, after a tag.
 fn put_tagged(out: &mut Vec<u8>, tag: u8, repo: &Text, path: &Text) -> Result<(), AllocError>
     requires repo { length repo.now < 2 ^ 16 }
     requires path { length path.now < 2 ^ 16 }
@@ -206,7 +206,7 @@ fn put_item(alloc: Global, out: &mut Vec<u8>, item: &Item) -> Result<(), AllocEr
     }
 }
 
-/// Writes items, one behind the other.
+/// Writes items, one after the other.
 pub fn put_items(alloc: Global, out: &mut Vec<u8>, items: &[Item]) -> Result<(), AllocError>
     requires { AreSized items.now }
     ensures { OnOk result (out.new.items ≡ out.old.items ++ flat_map item_bytes items.now) }
@@ -229,8 +229,8 @@ fn written(alloc: Global, change: &Change) -> Result<Vec<u8>, AllocError>
     Ok(out)
 }
 
-/// Writes a change, each file of which has its SHA-256 and SHA-512, behind what is there: in the second version. Where memory is
-/// wanting nothing is written.
+/// Writes a change, each file of which has its SHA-256 and SHA-512, after what is there: in the second version. When
+/// memory runs out nothing is written.
 pub fn put(alloc: Global, change: &Change, out: &mut Vec<u8>) -> Result<(), AllocError>
     requires { IsTrue (are_of Second change.now) }
     ensures ok { OnOk result (out.new.items ≡ out.old.items ++ change_bytes change.now) }

@@ -7,7 +7,7 @@ use Rattle.repo_core.specs.CoreTurn.{CoreTurn}
 use Rattle.repo_core.specs.Whole.{Whole}
 use Rattle.repo_course.specs.Cleaning.{Store}
 use Rattle.repo_model.specs.History.{Entry}
-use Rattle.run_desks.specs.Seen.{Kit, with_blobs}
+use Rattle.run_desks.specs.Seen.{DeskResources, with_blobs}
 use Rattle.repo_server.proofs.Entries.{leads_on}
 use Rattle.repo_run.specs.declared.tally.Tally.{Tally}
 use Rattle.repo_run.specs.Begun.{Begins, HoldsRecords}
@@ -23,10 +23,10 @@ counted-all : (calls most made last n : ℕ) → calls ≡ min (0 + (made + last
 counted-all calls most made last n counted few fits small one = omega (arith, counted, few, fits, small, one)
 
 module _ {X : Type 0} (tells : Type 0) (from requests : ℕ) (small : requests < 2 ^ 32) (old new : View (DeskState X)) (ends : ℕ)
-    (begun mid core : Whole) (cleared : Store) (kit : Kit) (begins : Begins fixed.settings old.records old.place.kit.blobs cleared old.clock begun)
-    (place : new.place ≡ record old.place { kit = kit }) (holds : HoldsRecords core new.records) (clock : new.clock ≡ core.state.clock) where
+    (begun mid core : Whole) (cleared : Store) (resources : DeskResources) (begins : Begins fixed.settings old.records old.place.resources.blobs cleared old.clock begun)
+    (place : new.place ≡ record old.place { resources = resources }) (holds : HoldsRecords core new.records) (clock : new.clock ≡ core.state.clock) where
   shown-then : (n : ℕ) (answers : List Answer) (last : List Entry) → n ≤ requests → length last ≤ 1
-      → Shows fixed.settings tells from n begun mid (with_blobs cleared old.place.kit) kit answers → Makes mid last core
+      → Shows fixed.settings tells from n begun mid (with_blobs cleared old.place.resources) resources answers → Makes mid last core
       → IsShown tells from n old new answers last core.calls
   shown-then n answers last fits one shown then =
       let made = leads_on (λ (before : Whole) (entry : Entry) (after : Whole). CoreTurn before.settings before entry after) shown.0 last begun mid core shown.1 then in
@@ -35,12 +35,12 @@ module _ {X : Type 0} (tells : Type 0) (from requests : ℕ) (small : requests <
       let counted : core.calls ≡ min (0 + length all) last_count =
       subst (λ (k : ℕ). core.calls ≡ min (k + length all) last_count) none (core_counted all begun core (omega (arith, none)) made) in
       let size : length all ≡ length shown.0 + length last = length-append shown.0 last in
-      let few = shown-few fixed.settings tells begins.form from n shown.0 (with_blobs cleared old.place.kit) kit answers shown.2 in
+      let few = shown-few fixed.settings tells begins.form from n shown.0 (with_blobs cleared old.place.resources) resources answers shown.2 in
       record {
         begun = begun;
         core = core;
         cleared = cleared;
-        kit = kit;
+        resources = resources;
         entries = shown.0;
         begins = begins;
         answered = shown.2;
@@ -52,7 +52,7 @@ module _ {X : Type 0} (tells : Type 0) (from requests : ℕ) (small : requests <
       }
 
   pub demonstrated : {E : Type 0} (result : Result Tally E)
-      → ShowsAll fixed.settings tells from requests begun mid (with_blobs cleared old.place.kit) kit result
+      → ShowsAll fixed.settings tells from requests begun mid (with_blobs cleared old.place.resources) resources result
       → TellsShown requests result mid core old.out new.out ends → Demonstrates tells from requests old new ends
   demonstrated (Ok tally) shows tells_so =
       let last : List Entry = tells_so.0 ∷ [] in

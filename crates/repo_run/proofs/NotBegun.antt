@@ -13,7 +13,7 @@ says-nothing : (loading : Option Expected) → IfSome loading (λ expected. Refu
 says-nothing None = tt
 says-nothing (Some expected) = tt
 
--- memory was wanting before the records were looked at
+-- memory ran out before the records were looked at
 pub not-begun : (records : Recorded) (blobs : Store) → StartFails records records blobs blobs NoMemory
 not-begun records blobs = record {
   cause = (refl, refl);

@@ -37,7 +37,7 @@ use Rattle.repo_run.specs.Replay as replay
 use Rattle.repo_run.specs.Status.{Counts, HasStatus, done, source_failed, sink_failed, out_failed, memory_wanted}
 use Rattle.run_lines.specs.Printing.{Output}
 use Rattle.outside.specs.declared.tells.Tells.{Ghosts as Telling}
-use Rattle.run_desks.specs.Seen.{Kit, with_blobs}
+use Rattle.run_desks.specs.Seen.{DeskResources, with_blobs}
 use Rattle.repo_run.specs.Surroundings.{Connection, DeskState, Served, View, connection, outside_at, outside_of, outside_with, placed, served, with_store}
 
 same-counts : (old new : Connection) (out out' : Output) → new.read_faults ≡ old.read_faults → new.write_faults ≡ old.write_faults
@@ -54,7 +54,7 @@ finished calls ending old new out out' status r w (inl a) = done (same-counts ol
 finished calls ending old new out out' status r w (inr (inl a)) = out_failed r w a.0.2 a.1
 finished calls ending old new out out' status r w (inr (inr a)) = memory_wanted r w a.1
 
-pub has-status : (calls : ℕ) (ending : End) (old new : Connection) (out out' : Output) (status : ℕ) (input input' : Option (List ℕ)) (blobs blobs' : Kit)
+pub has-status : (calls : ℕ) (ending : End) (old new : Connection) (out out' : Output) (status : ℕ) (input input' : Option (List ℕ)) (blobs blobs' : DeskResources)
     → EndsByCause ending (outside_at input old blobs) (outside_at input' new blobs') → Reports ending calls out out' status
     → HasStatus (counts old out) (counts new out') status
 has-status calls SourceFault old new out out' status input input' blobs blobs' ends told = source_failed ends.0 ends.1 told.1
@@ -104,18 +104,18 @@ nothing_held (Some bytes) = refl
 
 module _ (tells : Type 0) (settings : Settings) (form : IsSettings settings) where
   pub is-replayed : (old new : View Served) (cleared : Store) (begun core : Whole) (held : List ℕ) (ending : End) (entries : List Entry)
-      → Begins settings old.records old.place.kit.blobs cleared old.clock begun → Makes begun entries core
+      → Begins settings old.records old.place.resources.blobs cleared old.clock begun → Makes begun entries core
       → ServesStream settings tells 1000 entries (outside_with [] (with_store cleared old.place)) (outside_with held new.place) ending
       → new.clock ≡ core.state.clock → HoldsRecords core new.records → IsReplayed tells settings old new ending core.calls
   is-replayed old new cleared begun core held ending entries begins made first clock-is holds =
       let records = old.records in
       let records' = new.records in
-      let kit = old.place.kit in
+      let resources = old.place.resources in
       let link = old.place.connection in
       let before = outside_of (with_store cleared old.place) in
       let after = outside_with held new.place in
       let over : Store → Outside = λ (b : Store). outside_of (with_store b old.place) in
-      let served = subst (λ (input : Option (List ℕ)). ServesStream settings tells 1000 entries (outside_at input link (with_blobs cleared kit)) after ending) (nothing_held link.left) first in
+      let served = subst (λ (input : Option (List ℕ)). ServesStream settings tells 1000 entries (outside_at input link (with_blobs cleared resources)) after ending) (nothing_held link.left) first in
       let alone = core_alone entries begun core made in
       let legal : Legal settings begun.state entries = subst (λ (s : Settings). Legal s begun.state entries) begins.settings_are alone.legal in
       let ends : core.state ≡ end settings begun.state entries = alone.ends ∙ ap (λ (s : Settings). end s begun.state entries) begins.settings_are in
@@ -147,20 +147,20 @@ module _ (tells : Type 0) (settings : Settings) (form : IsSettings settings) whe
         ends = serves_shows tells settings 1000 entries before after ending served;
         played = λ fresh moments input taken told calm.
             let start = opening settings (Some moments) in
-            let first = fresh-state settings records records' kit.blobs cleared old.clock begun fresh begins ∙ ap (opening settings) told.clock_is in
+            let first = fresh-state settings records records' resources.blobs cleared old.clock begun fresh begins ∙ ap (opening settings) told.clock_is in
             let stood = calm-records records records' begun core moments entries first ends holds fresh in
             stream-upto settings tells told.blobs_tell 1000 entries start (subst (λ (s : State). Legal settings s entries) first legal) stood
             (outside_of old.place) after ending input taken
             (record { input_is = told.left_is; output_is = told.taken_is; rows = opening-told settings (Some moments); clock = refl }) calm
-            (subst (λ (b : Store). ServesStream settings tells 1000 entries (over b) after ending) (fresh-store settings records records' kit.blobs cleared old.clock begun fresh begins) served);
+            (subst (λ (b : Store). ServesStream settings tells 1000 entries (over b) after ending) (fresh-store settings records records' resources.blobs cleared old.clock begun fresh begins) served);
         faultless = λ fresh moments input taken told calm.
             let start = opening settings (Some moments) in
-            let first = fresh-state settings records records' kit.blobs cleared old.clock begun fresh begins ∙ ap (opening settings) told.clock_is in
+            let first = fresh-state settings records records' resources.blobs cleared old.clock begun fresh begins ∙ ap (opening settings) told.clock_is in
             let stood = calm-records records records' begun core moments entries first ends holds fresh in
             as-played settings tells told.blobs_tell 1000 entries start (subst (λ (s : State). Legal settings s entries) first legal) stood
             (outside_of old.place) after ending input taken
             (record { input_is = told.left_is; output_is = told.taken_is; rows = opening-told settings (Some moments); clock = refl }) calm
-            (subst (λ (b : Store). ServesStream settings tells 1000 entries (over b) after ending) (fresh-store settings records records' kit.blobs cleared old.clock begun fresh begins) served);
+            (subst (λ (b : Store). ServesStream settings tells 1000 entries (over b) after ending) (fresh-store settings records records' resources.blobs cleared old.clock begun fresh begins) served);
       }
     where
       -- the records of the opening state have not failed in the end
@@ -177,15 +177,15 @@ module _ (tells : Type 0) (settings : Settings) (form : IsSettings settings) whe
     Replayed = Replays tells links settings old new status
 
     -- a repository that was not asked has its records and its clock as they were when it began
-    unasked : (cleared : Store) (core core' : Whole) → Begins settings old.records old.place.kit.blobs cleared old.clock core → core' ≡ core → new.clock ≡ core'.state.clock
+    unasked : (cleared : Store) (core core' : Whole) → Begins settings old.records old.place.resources.blobs cleared old.clock core → core' ≡ core → new.clock ≡ core'.state.clock
         → HoldsRecords core' new.records → HoldsRecords core new.records × (new.clock ≡ old.clock)
     unasked cleared core core' begins same clock-is holds =
         let first = ap (λ (w : Whole). w.state) same ∙ begins.starts.state in
         (subst (λ (w : Whole). HoldsRecords w new.records) same holds, clock-is ∙ ap (λ (s : State). s.clock) first)
 
     -- what was served, with the line that tells it
-    pub replays : (cleared : Store) (core core' : Whole) (ended : Option End) → Begins settings old.records old.place.kit.blobs cleared old.clock core
-        → ServesFirst tells links settings (record old.place { kit = with_blobs cleared old.place.kit }) new.place core core' ended
+    pub replays : (cleared : Store) (core core' : Whole) (ended : Option End) → Begins settings old.records old.place.resources.blobs cleared old.clock core
+        → ServesFirst tells links settings (record old.place { resources = with_blobs cleared old.place.resources }) new.place core core' ended
         → new.clock ≡ core'.state.clock → HoldsRecords core' new.records → ReportsFirst ended core'.calls old.out new.out status → Replayed
     replays cleared core core' ended begins (port_failed faults rose desk same ends) clock-is holds told =
         let last = subst (λ (e : Option End). ReportsFirst e core'.calls old.out new.out status) ends told in
@@ -196,8 +196,8 @@ module _ (tells : Type 0) (settings : Settings) (form : IsSettings settings) whe
         let left = unasked cleared core core' begins same clock-is holds in
         replay.none_left core cleared begins at-end desk left.0 left.1
         (subst (λ (n : ℕ). Reports Closed n old.out new.out status) (ap (λ (w : Whole). w.calls) same ∙ begins.calls_are) last)
-    replays cleared core core' ended begins (one_served link link' left held kit ending entries took desk makes serves ends) clock-is holds told =
+    replays cleared core core' ended begins (one_served link link' left held resources ending entries took desk makes serves ends) clock-is holds told =
         let last = subst (λ (e : Option End). ReportsFirst e core'.calls old.out new.out status) ends told in
-        let all = is-replayed (placed (served (connection links link) old.place.kit) old) (placed (served (connection links link') kit) new) cleared core core' held ending entries begins makes serves clock-is holds in
-        replay.one_served link link' left kit ending core'.calls took desk all last
-        (has-status core'.calls ending (connection links link) (connection links link') old.out new.out status _ _ (with_blobs all.cleared old.place.kit) kit all.ends last)
+        let all = is-replayed (placed (served (connection links link) old.place.resources) old) (placed (served (connection links link') resources) new) cleared core core' held ending entries begins makes serves clock-is holds in
+        replay.one_served link link' left resources ending core'.calls took desk all last
+        (has-status core'.calls ending (connection links link) (connection links link') old.out new.out status _ _ (with_blobs all.cleared old.place.resources) resources all.ends last)

@@ -1,4 +1,4 @@
--- A run for whose words memory was wanting.
+-- A run for whose words memory ran out.
 use Rattle.std.proofs.Common.{◌≡◌, ℕ, List, Option, Some, None, Err, refl, inr}
 use Rattle.repo_config.specs.Source.{IsReadFrom}
 use Rattle.repo_config.specs.declared.faults.SettingsFault.TheVariants.{NoMemory}
@@ -16,9 +16,9 @@ use Rattle.repo_run.specs.Running.{Acts}
 use Rattle.repo_run.specs.Surroundings.{View}
 use Rattle.repo_run.proofs.NotBegun.{not-begun}
 use Rattle.repo_core.specs.declared.faults.StartFault.TheVariants as start
-use Rattle.run_desks.specs.Seen.{Floor, Looks}
+use Rattle.run_desks.specs.Seen.{RunResources, Looks}
 
--- want of memory says nothing of a source
+-- running out of memory says nothing of a source
 unread : (told : Option (List ℕ)) → IsReadFrom told (Err (Refused NoMemory))
 unread None = tt
 unread (Some text) = tt
@@ -27,7 +27,7 @@ unread (Some text) = tt
 pub unread-source : (source : File) (out out' : Output) (status : ℕ) → Prints memory_line out out' → status ≡ 8 → Reads source source out out' (Err status)
 unread-source source out out' status prints is = inr (NoMemory, refl, unread source.left, inr (prints, is))
 
-pub starved-run : {L P D : Type 0} (looks : Looks L P D) (command : Action) (old : View (Floor D)) (out' : Output) (status : ℕ)
+pub starved-run : {L P D : Type 0} (looks : Looks L P D) (command : Action) (old : View (RunResources D)) (out' : Output) (status : ℕ)
     → Prints memory_line old.out out' → status ≡ 8 → Acts looks command old (record old { out = out' }) status
 starved-run looks Replay old out' status prints is = (refused (unread-source old.source old.out out' status prints is) refl (refl, refl) refl, refl)
 starved-run looks Check old out' status prints is =

@@ -12,7 +12,7 @@ use Rattle.blob_audit.specs.declared.faults.AuditFault.TheVariants as audit
 use Rattle.repo_restart.specs.Leftovers.{ClearsFront}
 use Rattle.blob_audit.specs.Damages.{IsFirstDamaged}
 use Rattle.row_completion.specs.Completion.{IsDigested, IsDigestedWhereTold}
-use Rattle.row_tables.specs.Stops.{Rests}
+use Rattle.row_tables.specs.Crashes.{Rests}
 use Rattle.repo_core.specs.Start.{AreCompleted, AreLoaded, Starts}
 use Rattle.repo_core.specs.StartFaults.{HasStartCause, IsUnread, OnDamage, RefusesAs}
 use Rattle.repo_core.specs.Whole.{Whole, counting}
@@ -24,7 +24,7 @@ use Rattle.store_check.specs.Checking.{Recorded, RefusesDamaged, RefusesStore}
 
 -- The repository of these settings, which have their form, before its first call, over what is recorded and stored. A start gives the
 -- recorded rows the further digests that they lack, of the contents that it finds, and leaves the records' tables as they are else; it
--- removes of the store exactly what no row names. No change whose commit failed is pending then, and a stop leaves the tables. Where
+-- removes of the store exactly what no row names. No change whose commit failed is pending then, and a crash leaves the tables. Where
 -- nothing is recorded or stored, it is the repository that was never asked.
 pub record Begins (settings : Settings) (records : Recorded) (old new : cleaning.Store) (clock : Option Moments) (core : Whole) : Type 0 where
   pub form : IsSettings settings
@@ -41,7 +41,7 @@ pub record Begins (settings : Settings) (records : Recorded) (old new : cleaning
   pub opens : IfSome records.tables (λ t. t ≡ no_tables → IfSome old.shelf.blobs (λ them. them ≡ [] → core.state ≡ counting records.faults (opening settings clock)))
 
 -- A repository was not opened: the records or the store failed, which one of their counts tells, or these stand still and the
--- records are refused, as a load is told to refuse them, or a file is damaged, the first one, or memory is wanting. Some recorded rows
+-- records are refused, as a load is told to refuse them, or a file is damaged, the first one, or memory runs out. Some recorded rows
 -- that lacked their further digests may have been given them.
 pub record StartFails (records records' : Recorded) (old new : cleaning.Store) (fault : StartFault) : Type 0 where
   pub cause : HasStartCause records.faults records'.faults old.faults new.faults fault
@@ -65,7 +65,7 @@ RefusesStart (Damaged damage) old new status = RefusesDamaged damage old new sta
 abbrev pub LeavesRecords : Recorded → Recorded → Type 0
 LeavesRecords old new = (new.tables ≡ old.tables) × (new.faults ≡ old.faults)
 
--- the records hold what a repository has recorded with them, have failed as often as it says, and are as unsettled as it says: a stop
+-- the records hold what a repository has recorded with them, have failed as often as it says, and are as unsettled as it says: a crash
 -- leaves the tables, or these with the change whose commit failed
 abbrev pub HoldsRecords : Whole → Recorded → Type 0
 HoldsRecords core records =

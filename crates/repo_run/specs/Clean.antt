@@ -19,7 +19,7 @@ use Rattle.repo_run.specs.FirstConnection.{Makes}
 use Rattle.repo_run.specs.Surroundings.{View}
 
 -- how many rows were unlisted and how many blobs removed, in two lines, or a front of these, or there was no memory for them; or
--- why the pass was not made to its end: the records or the store failed, or memory was wanting
+-- why the pass was not made to its end: the records or the store failed, or memory ran out
 abbrev pub TellsPass : Result Cleaned CleanFault → Output → Output → ℕ → Type 0
 TellsPass (Ok cleaned) old new status =
     (PrintsWhole (cleaned_text cleaned.unlisted cleaned.removed) old new × (status ≡ 0))

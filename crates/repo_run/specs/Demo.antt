@@ -17,7 +17,7 @@ use Rattle.repo_model.specs.Command.{ask}
 use Rattle.repo_model.specs.History.{Entry}
 use Rattle.repo_model.specs.Reply.{finds}
 use Rattle.repo_model.specs.Settings.{Settings}
-use Rattle.run_desks.specs.Seen.{Kit, with_blobs}
+use Rattle.run_desks.specs.Seen.{DeskResources, with_blobs}
 use Rattle.run_lines.specs.Lines.{line, memory_line}
 use Rattle.run_lines.specs.Printing.{Output, Prints, PrintsPart, PrintsWhole}
 use Rattle.repo_run.specs.declared.tally.Tally.{Tally}
@@ -35,17 +35,17 @@ pub record Answer : Type 0 where
   pub ending : End
 
 -- a request is served over a connection of its own, by a desk's things, and the connection has taken this answer
-pub record IsAnswered (settings : Settings) (tells : Type 0) (request : List ℕ) (entries : List Entry) (old new : Kit) (answer : Answer) : Type 0 where
+pub record IsAnswered (settings : Settings) (tells : Type 0) (request : List ℕ) (entries : List Entry) (old new : DeskResources) (answer : Answer) : Type 0 where
   pub connection : Connection
   pub taken : connection.taken ≡ Some answer.bytes
   pub held : List ℕ
   pub serves : ServesStream settings tells 1000 entries (outside_of (served (giving request) old)) (outside_with held (served connection new)) answer.ending
 
 -- the first so many requests are answered, one after another, and these are the commands of all and their answers
-abbrev pub AreAnswered : Settings → Type 0 → ℕ → ℕ → List Entry → Kit → Kit → List Answer → Type 0
+abbrev pub AreAnswered : Settings → Type 0 → ℕ → ℕ → List Entry → DeskResources → DeskResources → List Answer → Type 0
 AreAnswered settings tells from zero entries old new answers = (entries ≡ []) × (new ≡ old) × (answers ≡ [])
 AreAnswered settings tells from (suc n) entries old new answers =
-    (first last : List Entry) × (mid : Kit) × (before : List Answer) × (answer : Answer) × (entries ≡ first ++ last) × (answers ≡ before ++ answer ∷ [])
+    (first last : List Entry) × (mid : DeskResources) × (before : List Answer) × (answer : Answer) × (entries ≡ first ++ last) × (answers ≡ before ++ answer ∷ [])
     × AreAnswered settings tells from n first old mid before
     × IsAnswered settings tells (request (number_at from (suc n)) (suc n)) last mid new answer
 
@@ -63,7 +63,7 @@ tally_of answers = record {
   missing = with_status (codes "404") answers;
 }
 
--- memory was wanting for none of the answers, and each was taken to its end, behind which its stream was closed
+-- memory ran out for none of the answers, and each was taken to its end, after which its stream was closed
 abbrev pub NoneStarved : List Answer → Type 0
 NoneStarved answers = (with_status (codes "507") answers ≡ 0) × AllByRecursion (λ (a : Answer). a.ending ≡ Closed) answers
 
@@ -92,21 +92,21 @@ pub record IsShown {X : Type 0} (tells : Type 0) (from n : ℕ) (old new : View 
   pub core : Whole
   -- the store as the start leaves it, and the desk's things in the end
   pub cleared : Store
-  pub kit : Kit
+  pub resources : DeskResources
   pub entries : List Entry
-  pub begins : Begins demo.settings old.records old.place.kit.blobs cleared old.clock begun
-  pub answered : AreAnswered demo.settings tells from n entries (with_blobs cleared old.place.kit) kit answers
+  pub begins : Begins demo.settings old.records old.place.resources.blobs cleared old.clock begun
+  pub answered : AreAnswered demo.settings tells from n entries (with_blobs cleared old.place.resources) resources answers
   pub made : Makes begun (entries ++ last) core
   pub counted : calls ≡ length (entries ++ last)
-  pub place : new.place ≡ record old.place { kit = kit }
+  pub place : new.place ≡ record old.place { resources = resources }
   pub holds : HoldsRecords core new.records
   pub clock : new.clock ≡ core.state.clock
 
--- The repository was not opened; or memory was wanting behind some of the requests, or room for the answer to the last of them; or
--- all were answered whole, none for want of memory, and then the repository said how many files it has.
+-- The repository was not opened; or memory ran out after some of the requests, or room for the answer to the last of them; or
+-- all were answered whole, none because memory ran out, and then the repository said how many files it has.
 pub data Demonstrates {X : Type 0} (tells : Type 0) (from requests : ℕ) (old new : View (DeskState X)) (ends : ℕ) : Type 0 where
-  not_started : (fault : StartFault) (blobs : Store) → StartFails old.records new.records old.place.kit.blobs blobs fault
-      → new.place ≡ record old.place { kit = with_blobs blobs old.place.kit } → new.clock ≡ old.clock → RefusesStart fault old.out new.out ends
+  not_started : (fault : StartFault) (blobs : Store) → StartFails old.records new.records old.place.resources.blobs blobs fault
+      → new.place ≡ record old.place { resources = with_blobs blobs old.place.resources } → new.clock ≡ old.clock → RefusesStart fault old.out new.out ends
       → Demonstrates tells from requests old new ends
   starved : (n : ℕ) (answers : List Answer) (last : List Entry) (calls : ℕ) → n ≤ requests → IsShown tells from n old new answers last calls
       → Prints memory_line old.out new.out → ends ≡ 8 → Demonstrates tells from requests old new ends

@@ -11,7 +11,7 @@ use Rattle.repo_course.specs.Asking.{LeadsTo}
 use Rattle.repo_course.specs.declared.outcomes.End.{End}
 use Rattle.repo_course.specs.declared.outcomes.End.TheVariants.{Closed}
 use Rattle.repo_course.specs.Serving.{ServesStream}
-use Rattle.run_desks.specs.Seen.{Kit}
+use Rattle.run_desks.specs.Seen.{DeskResources}
 use Rattle.repo_run.specs.Surroundings.{DeskState, connection, outside_at}
 
 -- the entries are the turns of the core, one after another
@@ -23,8 +23,8 @@ pub data ServesFirst {X : Type 0} (tells : Type 0) (links : Telling X) (settings
   port_failed : (faults : ℕ) → Rose old.port_faults faults → new ≡ record old { port_faults = faults } → core' ≡ core → result ≡ None
       → ServesFirst tells links settings old new core core' result
   none_left : IsAtEnd old.left → new ≡ old → core' ≡ core → result ≡ Some Closed → ServesFirst tells links settings old new core core' result
-  one_served : (link link' : X) (left : Option (List X)) (held : List ℕ) (kit : Kit) (ending : End) (entries : List Entry) → old.left ≡ in_front (link ∷ []) left
-      → new ≡ record old { left = left; given_back = behind old.given_back (link' ∷ []); kit = kit }
+  one_served : (link link' : X) (left : Option (List X)) (held : List ℕ) (resources : DeskResources) (ending : End) (entries : List Entry) → old.left ≡ in_front (link ∷ []) left
+      → new ≡ record old { left = left; given_back = behind old.given_back (link' ∷ []); resources = resources }
       → Makes core entries core' → ServesStream settings tells 1000 entries
-      (outside_at (in_front [] (links.left link)) (connection links link) old.kit) (outside_at (in_front held (links.left link')) (connection links link') kit) ending
+      (outside_at (in_front [] (links.left link)) (connection links link) old.resources) (outside_at (in_front held (links.left link')) (connection links link') resources) ending
       → result ≡ Some ending → ServesFirst tells links settings old new core core' result

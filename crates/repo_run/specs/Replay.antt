@@ -11,7 +11,7 @@ use Rattle.repo_core.specs.Whole.{Whole}
 use Rattle.repo_core.specs.declared.faults.StartFault.{StartFault}
 use Rattle.repo_course.specs.Cleaning.{Store}
 use Rattle.repo_course.specs.Course.{Fetch}
-use Rattle.run_desks.specs.Seen.{Kit, with_blobs}
+use Rattle.run_desks.specs.Seen.{DeskResources, with_blobs}
 use Rattle.repo_course.specs.declared.outcomes.End.{End}
 use Rattle.repo_course.specs.declared.outcomes.End.TheVariants.{Closed, SourceFault, SinkFault}
 use Rattle.repo_course.specs.Serving.{ServesStream}
@@ -44,7 +44,7 @@ pub record IsReplayed (tells : Type 0) (settings : Settings) (old new : View Ser
   pub core : Whole
   pub cleared : Store
   pub held : List ℕ
-  pub begins : Begins settings old.records old.place.kit.blobs cleared old.clock begun
+  pub begins : Begins settings old.records old.place.resources.blobs cleared old.clock begun
   pub serves : ServesStream settings tells 1000 entries (outside_of (with_store cleared old.place)) (outside_with held new.place) ending
   pub made : Makes begun entries core
   pub legal : Legal settings begun.state entries
@@ -57,14 +57,14 @@ pub record IsReplayed (tells : Type 0) (settings : Settings) (old new : View Ser
   pub drafts_found : AllByRecursion (λ (e : Entry). e.reply ≢ no_draft) entries
   pub ends : EndsByCause ending (outside_of (with_store cleared old.place)) (outside_with held new.place)
   -- Over nothing, where no blob failed, what was taken is what is answered if nothing fails, up to some place
-  pub played : IsFresh old.records new.records old.place.kit.blobs → (moments : Moments) (input before : List ℕ) → AllTold tells old.clock old.place.connection moments input before
-      → StoodStill old.place.kit.blobs.faults new.place.kit.blobs.faults
-      → (fetched : List Fetch) × AreFetched (plans_of entries) fetched old.place.kit.remote new.place.kit.remote
+  pub played : IsFresh old.records new.records old.place.resources.blobs → (moments : Moments) (input before : List ℕ) → AllTold tells old.clock old.place.connection moments input before
+      → StoodStill old.place.resources.blobs.faults new.place.resources.blobs.faults
+      → (fetched : List Fetch) × AreFetched (plans_of entries) fetched old.place.resources.remote new.place.resources.remote
       × IsPlayedUpTo settings 1000 (first_scene settings (Some moments) input fetched) before (outside_of old.place) (outside_with held new.place) ending
   -- and all of it where nothing failed
-  pub faultless : IsFresh old.records new.records old.place.kit.blobs → (moments : Moments) (input before : List ℕ) → AllTold tells old.clock old.place.connection moments input before
+  pub faultless : IsFresh old.records new.records old.place.resources.blobs → (moments : Moments) (input before : List ℕ) → AllTold tells old.clock old.place.connection moments input before
       → NoFaults (outside_of old.place) (outside_with held new.place)
-      → (fetched : List Fetch) × AreFetched (plans_of entries) fetched old.place.kit.remote new.place.kit.remote
+      → (fetched : List Fetch) × AreFetched (plans_of entries) fetched old.place.resources.remote new.place.resources.remote
       × IsAsPlayed settings 1000 (first_scene settings (Some moments) input fetched) before new.place.connection.taken ending
 
 -- a stream is over: its line, or the part of it that was printed, or that there was no memory for it
@@ -90,19 +90,19 @@ counts c out = record { source = c.read_faults; sink = c.write_faults; out = out
 
 -- A repository of these settings serves a desk, and a line tells it. The store is the desk's, once the repository has started.
 pub data Replays {X : Type 0} (tells : Type 0) (links : Telling X) (settings : Settings) (old new : View (DeskState X)) (status : ℕ) : Type 0 where
-  not_started : (fault : StartFault) (blobs : Store) → StartFails old.records new.records old.place.kit.blobs blobs fault
-      → new.place ≡ record old.place { kit = with_blobs blobs old.place.kit } → new.clock ≡ old.clock → RefusesStart fault old.out new.out status
+  not_started : (fault : StartFault) (blobs : Store) → StartFails old.records new.records old.place.resources.blobs blobs fault
+      → new.place ≡ record old.place { resources = with_blobs blobs old.place.resources } → new.clock ≡ old.clock → RefusesStart fault old.out new.out status
       → Replays tells links settings old new status
-  port_failed : (begun : Whole) (blobs : Store) (faults : ℕ) → Begins settings old.records old.place.kit.blobs blobs old.clock begun → Rose old.place.port_faults faults
-      → new.place ≡ record old.place { port_faults = faults; kit = with_blobs blobs old.place.kit } → HoldsRecords begun new.records → new.clock ≡ old.clock
+  port_failed : (begun : Whole) (blobs : Store) (faults : ℕ) → Begins settings old.records old.place.resources.blobs blobs old.clock begun → Rose old.place.port_faults faults
+      → new.place ≡ record old.place { port_faults = faults; resources = with_blobs blobs old.place.resources } → HoldsRecords begun new.records → new.clock ≡ old.clock
       → Prints input_line old.out new.out → status ≡ 6 → Replays tells links settings old new status
-  none_left : (begun : Whole) (blobs : Store) → Begins settings old.records old.place.kit.blobs blobs old.clock begun → IsAtEnd old.place.left
-      → new.place ≡ record old.place { kit = with_blobs blobs old.place.kit } → HoldsRecords begun new.records → new.clock ≡ old.clock
+  none_left : (begun : Whole) (blobs : Store) → Begins settings old.records old.place.resources.blobs blobs old.clock begun → IsAtEnd old.place.left
+      → new.place ≡ record old.place { resources = with_blobs blobs old.place.resources } → HoldsRecords begun new.records → new.clock ≡ old.clock
       → Reports Closed 0 old.out new.out status → Replays tells links settings old new status
   -- the first connection was served, and given back in this state
-  one_served : (link link' : X) (left : Option (List X)) (kit : Kit) (ending : End) (calls : ℕ) → old.place.left ≡ in_front (link ∷ []) left
-      → new.place ≡ record old.place { left = left; given_back = behind old.place.given_back (link' ∷ []); kit = kit }
-      → IsReplayed tells settings (placed (served (connection links link) old.place.kit) old) (placed (served (connection links link') kit) new) ending calls
+  one_served : (link link' : X) (left : Option (List X)) (resources : DeskResources) (ending : End) (calls : ℕ) → old.place.left ≡ in_front (link ∷ []) left
+      → new.place ≡ record old.place { left = left; given_back = behind old.place.given_back (link' ∷ []); resources = resources }
+      → IsReplayed tells settings (placed (served (connection links link) old.place.resources) old) (placed (served (connection links link') resources) new) ending calls
       → Reports ending calls old.out new.out status → HasStatus (counts (connection links link) old.out) (counts (connection links link') new.out) status
       → Replays tells links settings old new status
 

@@ -4,7 +4,7 @@ use Rattle.outside.specs.Faults.{Rose}
 use Rattle.repo_run.specs.declared.actions.Action.{Action}
 use Rattle.repo_run.specs.declared.actions.Action.TheVariants.{Replay, Check, Clean, Serve, Demo, Nothing}
 
--- done, settings that are refused, a store that failed or does not read, a damaged file, input, output or want of memory; and
+-- done, settings that are refused, a store that failed or does not read, a damaged file, input, output or out of memory; and
 -- never 2
 abbrev pub IsStatusOfOpening : ℕ → Type 0
 IsStatusOfOpening status = (status ≡ 0) ⊎ ((status ≡ 3) ⊎ ((status ≡ 4) ⊎ ((status ≡ 5) ⊎ ((status ≡ 6) ⊎ ((status ≡ 7) ⊎ (status ≡ 8))))))
@@ -17,7 +17,7 @@ IsStatusOfCheck status = (status ≡ 0) ⊎ ((status ≡ 3) ⊎ ((status ≡ 4) 
 abbrev pub IsStatusOfDemo : ℕ → Type 0
 IsStatusOfDemo status = (status ≡ 0) ⊎ ((status ≡ 4) ⊎ ((status ≡ 5) ⊎ ((status ≡ 7) ⊎ (status ≡ 8))))
 
--- by what the words ask for; want of memory may stand in the place of a refusal
+-- by what the words ask for; running out of memory may stand in the place of a refusal
 abbrev pub MatchAction : Action → ℕ → Type 0
 MatchAction Replay status = IsStatusOfOpening status
 MatchAction Check status = IsStatusOfCheck status
@@ -33,7 +33,7 @@ pub record Counts : Type 0 where
   pub sink : ℕ
   pub out : ℕ
 
--- The status by its cause: one of the counts rose and none that decides before it, memory was wanted, or no count rose.
+-- The status by its cause: one of the counts rose and none that decides before it, memory ran out, or no count rose.
 pub data HasStatus (old new : Counts) (status : ℕ) : Type 0 where
   done : new ≡ old → status ≡ 0 → HasStatus old new status
   source_failed : Rose old.source new.source → new.sink ≡ old.sink → status ≡ 6 → HasStatus old new status

@@ -10,13 +10,13 @@ use Rattle.row_tables.specs.declared.records.Records.{Ghosts as Recording}
 use Rattle.repo_course.specs.Cleaning.{Store}
 use Rattle.repo_course.specs.Serving.{Outside}
 use Rattle.run_desks.specs.declared.objects.Cleaner.{Cleaner}
-use Rattle.run_desks.specs.Seen.{Floor, Kit, Looks, floor, with_blobs}
+use Rattle.run_desks.specs.Seen.{RunResources, DeskResources, Looks, run_resources, with_blobs}
 use Rattle.run_lines.specs.Printing.{Output, output}
 use Rattle.run_lines.specs.Reading.{File, file}
 use Rattle.store_check.specs.Checking.{Recorded, records_told}
 
 -- What a run sees: the source of its settings, what it works with, its records, the moments that its clock will give, and what its
--- lines are printed on. It works with a floor, of which a replay sees one desk and a cleaning the cleaner.
+-- lines are printed on. It works with desks and a cleaner, of which a replay sees one desk and a cleaning the cleaner.
 pub record View (D : Type 0) : Type 0 where
   pub source : File
   pub place : D
@@ -44,9 +44,9 @@ view_of recording clocks sinks source place records clock out =
 
 -- what is seen of all that a run has
 abbrev pub view : {S B Q K C O H N D : Type 0} → Telling S → Storing B H N → Pacing Q → Recording K → Ticking C → Telling O
-    → S → D → Cleaner B Q H N → K → C → O → View (Floor D)
+    → S → D → Cleaner B Q H N → K → C → O → View (RunResources D)
 view sources stores paces recording clocks sinks source desks cleaner records clock out =
-    view_of recording clocks sinks (source_seen sources source) (floor stores paces desks cleaner) records clock out
+    view_of recording clocks sinks (source_seen sources source) (run_resources stores paces desks cleaner) records clock out
 
 -- what a connection tells of itself
 pub record Connection : Type 0 where
@@ -65,44 +65,44 @@ pub record DeskState (X : Type 0) : Type 0 where
   pub left : Option (List X)
   pub given_back : Option (List X)
   pub port_faults : ℕ
-  pub kit : Kit
+  pub resources : DeskResources
 
 abbrev pub desk_state : {L P D : Type 0} → Looks L P D → D → DeskState L
 desk_state looks desk =
-    record { left = looks.left (looks.port desk); given_back = looks.given_back (looks.port desk); port_faults = looks.faults (looks.port desk); kit = looks.kit desk }
+    record { left = looks.left (looks.port desk); given_back = looks.given_back (looks.port desk); port_faults = looks.faults (looks.port desk); resources = looks.resources desk }
 
--- of two lists the first are so related, and behind them both are the same
+-- of two lists the first are so related, and after them both are the same
 abbrev pub FirstOnly : {D : Type 0} → (D → D → Type 0) → List D → List D → Type 0
 FirstOnly Related (old ∷ olds) (new ∷ news) = Related old new × (news ≡ olds)
 FirstOnly Related olds news = ⊥
 
 -- what a server sees of a connection and its desk, with these bytes not yet used
-abbrev pub outside_at : Option (List ℕ) → Connection → Kit → Outside
-outside_at input c kit = record {
+abbrev pub outside_at : Option (List ℕ) → Connection → DeskResources → Outside
+outside_at input c resources = record {
   input = input;
   output = c.taken;
   read_faults = c.read_faults;
   write_faults = c.write_faults;
-  blob_faults = kit.blobs.faults;
-  shelf = kit.blobs.shelf;
-  remote = kit.remote;
+  blob_faults = resources.blobs.faults;
+  shelf = resources.blobs.shelf;
+  remote = resources.remote;
 }
 
 -- a connection at a desk with these things
 pub record Served : Type 0 where
   pub connection : Connection
-  pub kit : Kit
+  pub resources : DeskResources
 
-abbrev pub served : Connection → Kit → Served
-served connection kit = record { connection = connection; kit = kit }
+abbrev pub served : Connection → DeskResources → Served
+served connection resources = record { connection = connection; resources = resources }
 
 -- the same over other blobs
 abbrev pub with_store : Store → Served → Served
-with_store blobs s = served s.connection (with_blobs blobs s.kit)
+with_store blobs s = served s.connection (with_blobs blobs s.resources)
 
 -- what the server sees of it; and the same where these bytes were read ahead
 abbrev pub outside_of : Served → Outside
-outside_of s = outside_at s.connection.left s.connection s.kit
+outside_of s = outside_at s.connection.left s.connection s.resources
 
 abbrev pub outside_with : List ℕ → Served → Outside
-outside_with held s = outside_at (in_front held s.connection.left) s.connection s.kit
+outside_with held s = outside_at (in_front held s.connection.left) s.connection s.resources

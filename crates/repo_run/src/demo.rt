@@ -6,7 +6,7 @@ ghost use Rattle.repo_course.specs.Serving.{AllTell};
 ghost use Rattle.run_desks.specs.Seen.{looks, store_seen};
 ghost use Rattle.run_lines.specs.Reading.{File};
 ghost use Rattle.repo_run.specs.Demo.{Demonstrates, giving};
-ghost use Rattle.repo_run.specs.DemoSteps.{Answers, AsksFiles, ShowsAll, Steps, TellsAll, TellsShown, kit};
+ghost use Rattle.repo_run.specs.DemoSteps.{Answers, AsksFiles, ShowsAll, Steps, TellsAll, TellsShown, resources};
 ghost use Rattle.repo_run.specs.Surroundings.{connection as connection_seen, desk_state, output_seen, view_of};
 
 use crate::begun::{begin, refuse_start};
@@ -51,9 +51,9 @@ fn answer_to<B: Blobs, R: Remote, K: Records, C: Clock>(
 ) -> Result<(MemSink, End), NoMemory>
     requires { core.old.settings ≡ settings.now }
     ensures ok { IfOk result (λ took. Answers settings.now (AllTell B.Held.bytes) request.items core.old core.new
-        (kit (store_seen ⟦<B as Blobs>⟧ blobs.old) (R.sees remote.old)) (kit (store_seen ⟦<B as Blobs>⟧ blobs.new) (R.sees remote.new)) (record { bytes = took.0.taken; ending = took.1 })) }
+        (resources (store_seen ⟦<B as Blobs>⟧ blobs.old) (R.sees remote.old)) (resources (store_seen ⟦<B as Blobs>⟧ blobs.new) (R.sees remote.new)) (record { bytes = took.0.taken; ending = took.1 })) }
     ensures err { IfErr result (λ fault. (core.new ≡ core.old)
-        × (kit (store_seen ⟦<B as Blobs>⟧ blobs.new) (R.sees remote.new) ≡ kit (store_seen ⟦<B as Blobs>⟧ blobs.old) (R.sees remote.old))) }
+        × (resources (store_seen ⟦<B as Blobs>⟧ blobs.new) (R.sees remote.new) ≡ resources (store_seen ⟦<B as Blobs>⟧ blobs.old) (R.sees remote.old))) }
     ensures settings { core.new.settings ≡ core.old.settings }
 {
     let mut link = connection(alloc, request)?;
@@ -61,7 +61,7 @@ fn answer_to<B: Blobs, R: Remote, K: Records, C: Clock>(
     Ok((link.sink, ending))
 }
 
-/// Answers the request of a number at a place. An answer for which its connection has no room is one for which memory is wanting.
+/// Answers the request of a number at a place. An answer for which its connection has no room is one for which memory runs out.
 fn answer_next<B: Blobs, R: Remote, K: Records, C: Clock>(
     alloc: Global,
     settings: &Settings,
@@ -73,7 +73,7 @@ fn answer_next<B: Blobs, R: Remote, K: Records, C: Clock>(
 ) -> Result<MemSink, NoMemory>
     requires { core.old.settings ≡ settings.now }
     ensures steps { Steps settings.now (AllTell B.Held.bytes) (request_text number place) core.old core.new
-        (kit (store_seen ⟦<B as Blobs>⟧ blobs.old) (R.sees remote.old)) (kit (store_seen ⟦<B as Blobs>⟧ blobs.new) (R.sees remote.new)) result }
+        (resources (store_seen ⟦<B as Blobs>⟧ blobs.old) (R.sees remote.old)) (resources (store_seen ⟦<B as Blobs>⟧ blobs.new) (R.sees remote.new)) result }
     ensures settings { core.new.settings ≡ core.old.settings }
 {
     let text = request(alloc, number, place)?;
@@ -99,7 +99,7 @@ fn answer_all<B: Blobs, R: Remote, K: Records, C: Clock>(
 ) -> Result<Tally, NoMemory>
     requires { core.old.settings ≡ settings.now }
     ensures { ShowsAll settings.now (AllTell B.Held.bytes) from requests core.old core.new
-        (kit (store_seen ⟦<B as Blobs>⟧ blobs.old) (R.sees remote.old)) (kit (store_seen ⟦<B as Blobs>⟧ blobs.new) (R.sees remote.new)) result }
+        (resources (store_seen ⟦<B as Blobs>⟧ blobs.old) (R.sees remote.old)) (resources (store_seen ⟦<B as Blobs>⟧ blobs.new) (R.sees remote.new)) result }
 {
     let mut tally = Tally {
         ok: 0,
@@ -115,7 +115,7 @@ fn answer_all<B: Blobs, R: Remote, K: Records, C: Clock>(
     Ok(tally)
 }
 
-/// Asks how many files there are, and how many of them fade. `None` where memory was wanting.
+/// Asks how many files there are, and how many of them fade. `None` when memory ran out.
 fn ask_files<K: Records, C: Clock, H: Held>(core: &mut Core<K, C, H>) -> Option<Files>
     ensures { AsksFiles core.old core.new result }
 {
@@ -149,7 +149,7 @@ fn tell_all<K: Records, C: Clock, H: Held, O: Sink>(
     }
 }
 
-/// Prints how the requests were answered, or that memory was wanting.
+/// Prints how the requests were answered, or that memory ran out.
 fn tell_shown<K: Records, C: Clock, H: Held, O: Sink>(
     alloc: Global,
     out: &mut O,

@@ -36,10 +36,10 @@ pub fn alone_nothing_is_left_behind<H: Held>()
 
 /// The worked PUT and GET of one file, as the connection of a replay over nothing that tells all, under settings whose hosted
 /// repositories are the worked ones: where nothing failed it has taken the worked answers byte for byte and was closed, or
-/// memory was wanted.
+/// memory ran out.
 pub fn worked_replay<H: Held>()
     ensures { (settings : Settings) (old new : View Served) (moments : Moments) (ending : End) (calls : ℕ) →
-        IsReplayed (AllTell H.bytes) (worked_settings settings) old new ending calls → IsFresh old.records new.records old.place.kit.blobs →
+        IsReplayed (AllTell H.bytes) (worked_settings settings) old new ending calls → IsFresh old.records new.records old.place.resources.blobs →
         AllTold (AllTell H.bytes) old.clock old.place.connection moments (put_abc ++ last_get) [] → NoFaults (outside_of old.place) (outside_of new.place) →
         ((new.place.connection.taken ≡ Some (created_201 ++ abc_200)) × (ending ≡ End.Closed)) ⊎ WantedMemory [] new.place.connection.taken }
 {}

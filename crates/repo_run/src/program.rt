@@ -87,7 +87,7 @@ fn act<B: Blobs, S: Source, P: Port, R: Remote, Q: Pace, K: Records, C: Clock, O
 /// | 5 | a recorded file's blob is not what was recorded, and the words ask for no check | `mvnrepod: damaged ..` |
 /// | 6 | the source of the settings failed, the port, or the connection's source | `mvnrepod: input` |
 /// | 7 | the connection's sink failed, or `out` while the lines of status 0 or 9 were printed | none, or a front of these lines |
-/// | 8 | memory was wanting | `mvnrepod: memory` |
+/// | 8 | memory ran out | `mvnrepod: memory` |
 /// | 9 | a check has named a file | `damaged ..` for each, then `checked N` |
 ///
 /// Each failure is one that its object counted. N is a number of calls of the repository, of files or of blobs; END is

@@ -24,7 +24,7 @@ pub struct Files {
     pub fading: u64,
 }
 
-/// Whether memory was wanting for the answer.
+/// Whether memory ran out for the answer.
 pub(crate) fn is_starved(answer: &[u8]) -> bool
     ensures { result ≡ has_status (codes "507") answer.now }
 {

@@ -83,7 +83,7 @@ fn asked_by(alloc: Global, words: command_words::Wanted) -> Wanted
     }
 }
 
-/// Reads the words behind the program's name: `replay SETTINGS [--at T] [--step S]`, T up to 253402207200 and S up to 86400, or
+/// Reads the words after the program's name: `replay SETTINGS [--at T] [--step S]`, T up to 253402207200 and S up to 86400, or
 /// `check SETTINGS DATA`, `clean SETTINGS DATA` or `serve SETTINGS DATA PORT`, PORT from 1 to 65535, or `demo --from N --calls M`,
 /// N up to 65535 and M up to 100000; all else asks for nothing.
 pub fn wanted(alloc: Global, words: &[String]) -> Result<Wanted, NoMemory>

@@ -2,7 +2,7 @@
 use case_texts::{Tale, number_of, text_of};
 use mvn_coords::Side;
 use mvn_digest::{Digest, Digests, Hashes, side_text};
-use repo_course::{FetchFault, Manner, Said, rendered};
+use repo_course::{FetchFault, Response, ResponseMode, rendered};
 use repo_model::{Finding, Print, SessionResult};
 use shared_bytes::SharedBytes;
 use std::alloc::{AllocError, Global};
@@ -22,8 +22,8 @@ fn print_of(bytes: &[u8]) -> Print {
 }
 
 /// Whether the connection goes on, and whether the body is left out.
-fn manner_of(word: &str) -> Manner {
-    Manner {
+fn mode_of(word: &str) -> ResponseMode {
+    ResponseMode {
         close: word.starts_with("closes"),
         last: word == "last",
         head_only: word.ends_with("head"),
@@ -31,14 +31,14 @@ fn manner_of(word: &str) -> Manner {
 }
 
 /// What is said of numbers.
-fn said_of_numbers(words: &[u64]) -> Option<Said> {
+fn response_of_numbers(words: &[u64]) -> Option<Response> {
     Some(match words {
-        [session] => Said::Opened(*session),
-        [unlisted, removed] => Said::Cleaned {
+        [session] => Response::Opened(*session),
+        [unlisted, removed] => Response::Cleaned {
             unlisted: *unlisted,
             removed: *removed,
         },
-        [files, fading, cached, documents, sessions] => Said::Found(Finding::Counts {
+        [files, fading, cached, documents, sessions] => Response::Found(Finding::Counts {
             files: *files,
             fading: *fading,
             cached: *cached,
@@ -58,17 +58,17 @@ fn numbers_of(alloc: Global, words: &[String]) -> Result<Vec<u64>, AllocError> {
 }
 
 /// What is said of contents.
-fn said_of_contents(alloc: Global, words: &[String]) -> Result<Option<Said>, AllocError> {
+fn response_of_contents(alloc: Global, words: &[String]) -> Result<Option<Response>, AllocError> {
     Ok(Some(match words {
-        [word, said, kept] if word.as_str() == "differs" => Said::Differs {
+        [word, said, kept] if word.as_str() == "differs" => Response::Differs {
             said: side_text(&digests_of(said.as_bytes()), Side::Md5),
             kept: side_text(&digests_of(kept.as_bytes()), Side::Md5),
         },
-        [word, recorded, found] if word.as_str() == "blob-differs" => Said::BlobDiffers {
+        [word, recorded, found] if word.as_str() == "blob-differs" => Response::BlobDiffers {
             recorded: print_of(recorded.as_bytes()),
             found: print_of(found.as_bytes()),
         },
-        [word, text] if word.as_str() == "document" => Said::Doc {
+        [word, text] if word.as_str() == "document" => Response::Doc {
             text: SharedBytes::new(alloc, text.as_bytes())?,
             digests: digests_of(text.as_bytes()),
         },
@@ -77,7 +77,7 @@ fn said_of_contents(alloc: Global, words: &[String]) -> Result<Option<Said>, All
 }
 
 /// What is said of a fetch that gave nothing.
-fn said_of_fetch(words: &[String]) -> Option<Said> {
+fn response_of_fetch(words: &[String]) -> Option<Response> {
     let [word, rest @ ..] = words else {
         return None;
     };
@@ -100,39 +100,39 @@ fn said_of_fetch(words: &[String]) -> Option<Said> {
         ("fault", []) => FetchFault::Fault,
         _ => return None,
     };
-    Some(Said::NotFetched(why))
+    Some(Response::NotFetched(why))
 }
 
-fn said_of(alloc: Global, words: &[String]) -> Result<Option<Said>, AllocError> {
+fn response_of(alloc: Global, words: &[String]) -> Result<Option<Response>, AllocError> {
     let [word, rest @ ..] = words else {
         return Ok(None);
     };
     Ok(match (word.as_str(), rest) {
-        ("no-draft", []) => Some(Said::NoDraft),
-        ("spent", []) => Some(Said::Spent),
-        ("same", []) => Some(Said::Same),
-        ("relisted", []) => Some(Said::Relisted),
-        ("blocked", []) => Some(Said::Blocked),
-        ("negative", []) => Some(Said::Negative),
-        ("never", []) => Some(Said::NeverAsked),
-        ("remote-gone", []) => Some(Said::RemoteGone),
-        ("fetch", why) => said_of_fetch(why),
-        ("deployed", [count]) => Some(Said::Ended(SessionResult::Done(number_of(
+        ("no-draft", []) => Some(Response::NoDraft),
+        ("spent", []) => Some(Response::Spent),
+        ("same", []) => Some(Response::Same),
+        ("relisted", []) => Some(Response::Relisted),
+        ("blocked", []) => Some(Response::Blocked),
+        ("negative", []) => Some(Response::Negative),
+        ("never", []) => Some(Response::NeverAsked),
+        ("remote-gone", []) => Some(Response::RemoteGone),
+        ("fetch", why) => response_of_fetch(why),
+        ("deployed", [count]) => Some(Response::Ended(SessionResult::Done(number_of(
             count.as_str(),
         ).unwrap_or(0)))),
-        ("numbers", numbers) => said_of_numbers(numbers_of(alloc, numbers)?.as_slice()),
-        _ => said_of_contents(alloc, words)?,
+        ("numbers", numbers) => response_of_numbers(numbers_of(alloc, numbers)?.as_slice()),
+        _ => response_of_contents(alloc, words)?,
     })
 }
 
 /// What is told of a step about answers.
 pub(crate) fn told(alloc: Global, key: &str, words: &[String]) -> Tale {
-    let (true, [manner, said @ ..]) = (key == "answer", words) else {
+    let (true, [mode, said @ ..]) = (key == "answer", words) else {
         return Ok(None);
     };
-    let Some(said) = said_of(alloc, said)? else {
+    let Some(said) = response_of(alloc, said)? else {
         return Ok(None);
     };
-    let bytes: Bytes = rendered(alloc, said, manner_of(manner.as_str()))?;
+    let bytes: Bytes = rendered(alloc, said, mode_of(mode.as_str()))?;
     Ok(Some(text_of(alloc, bytes.as_slice())?))
 }

@@ -2,7 +2,7 @@
 //! each case of which is told what has to be, and the first difference of the others. The cases stand in files that the words name, in
 //! the form of `case_texts`. The status is 0 where all cases go as they have to.
 //!
-//! Words behind `--settings`, with files of cases before it or none, are files of settings, of each of which it prints a line: what it
+//! Words after `--settings`, with files of cases before it or none, are files of settings, of each of which it prints a line: what it
 //! says, or that it is refused or not read. The stored run reads the commented example, a file that is missing, a folder, and one that does not end.
 #![tactic(auto)]
 

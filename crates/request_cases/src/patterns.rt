@@ -29,7 +29,7 @@ fn told_through(
     }
 }
 
-/// The words in front of a bar, and those behind it.
+/// The words in front of a bar, and those after it.
 fn parted(words: &[String]) -> (&[String], &[String]) {
     for (n, word) in words.iter().enumerate() {
         if word.as_str() == "|" {

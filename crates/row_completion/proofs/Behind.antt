@@ -1,4 +1,4 @@
--- A row behind others: it is found at its place, and changed there alone.
+-- A row after others: it is found at its place, and changed there alone.
 use Rattle.std.proofs.Common.{◌≡◌, true, false, cond, List, [], ◌∷◌, ◌++◌, find, Option, Some, refl, sym, ap, ◌∙◌}
 use Rattle.std.specs.List.{AllByRecursion}
 use Rattle.std.specs.Option.{option_map, option_map_or}
@@ -26,13 +26,13 @@ complete-more [] r all is = (is, tt)
 complete-more (d ∷ done) r all is = (all.0, complete-more done r all.1 is)
 
 module _ (r : RecordedRow) where
-  found-behind : (done rest : List RecordedRow) → Apart r done → find (at_place r) (done ++ r ∷ rest) ≡ Some r
-  found-behind [] rest apart = ap (λ b. cond b (Some r) (find (at_place r) rest)) (place-itself r)
-  found-behind (d ∷ done) rest apart = ap (λ b. cond b (Some d) (find (at_place r) (done ++ r ∷ rest))) apart.0 ∙ found-behind done rest apart.1
+  found-after : (done rest : List RecordedRow) → Apart r done → find (at_place r) (done ++ r ∷ rest) ≡ Some r
+  found-after [] rest apart = ap (λ b. cond b (Some r) (find (at_place r) rest)) (place-itself r)
+  found-after (d ∷ done) rest apart = ap (λ b. cond b (Some d) (find (at_place r) (done ++ r ∷ rest))) apart.0 ∙ found-after done rest apart.1
 
-  pub lacks-behind : (done rest : List RecordedRow) → Apart r done → lacks_at r.repo r.row.path (done ++ r ∷ rest) ≡ lacks_further r.row.blob.print
-  lacks-behind done rest apart =
-      ap (λ (found : Option RecordedRow). option_map_or (λ (row : Row). lacks_further row.blob.print) (option_map (λ (s : RecordedRow). s.row) found) false) (found-behind done rest apart)
+  pub lacks-after : (done rest : List RecordedRow) → Apart r done → lacks_at r.repo r.row.path (done ++ r ∷ rest) ≡ lacks_further r.row.blob.print
+  lacks-after done rest apart =
+      ap (λ (found : Option RecordedRow). option_map_or (λ (row : Row). lacks_further row.blob.print) (option_map (λ (s : RecordedRow). s.row) found) false) (found-after done rest apart)
 
   -- none of these lacks its digests there
   pub lacks-none : (done rest : List RecordedRow) → AreComplete done → Apart r rest → lacks_at r.repo r.row.path (done ++ rest) ≡ false
@@ -52,6 +52,6 @@ module _ (r : RecordedRow) where
     unchanged [] apart = refl
     unchanged (s ∷ rows) apart = λ i. cond (apart.0 i) (record s { row = f s.row }) s ∷ unchanged rows apart.1 i
 
-    pub changed-behind : (done rest : List RecordedRow) → Apart r done → Apart r rest → change_recorded r.repo r.row.path f (done ++ r ∷ rest) ≡ done ++ record r { row = f r.row } ∷ rest
-    changed-behind [] rest before behind = λ i. cond (place-itself r i) (record r { row = f r.row }) r ∷ unchanged rest behind i
-    changed-behind (d ∷ done) rest before behind = λ i. cond (before.0 i) (record d { row = f d.row }) d ∷ changed-behind done rest before.1 behind i
+    pub changed-after : (done rest : List RecordedRow) → Apart r done → Apart r rest → change_recorded r.repo r.row.path f (done ++ r ∷ rest) ≡ done ++ record r { row = f r.row } ∷ rest
+    changed-after [] rest before behind = λ i. cond (place-itself r i) (record r { row = f r.row }) r ∷ unchanged rest behind i
+    changed-after (d ∷ done) rest before behind = λ i. cond (before.0 i) (record d { row = f d.row }) d ∷ changed-after done rest before.1 behind i

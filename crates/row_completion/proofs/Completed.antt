@@ -1,4 +1,4 @@
--- The items of all recorded files: they are short and fit, and the tables behind the first of them, or behind all.
+-- The items of all recorded files: they are short and fit, and the tables after the first of them, or after all.
 use Rattle.std.proofs.Common.{◌≡◌, List, [], ◌∷◌, ◌++◌, Ok, refl, sym, subst, arith, append-nil}
 use Rattle.std.specs.List.{AllByRecursion}
 use Rattle.outside.specs.Blobs.{Shelf}

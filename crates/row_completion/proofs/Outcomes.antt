@@ -1,4 +1,4 @@
--- The items of recorded files, the first of them or all: they fit one after another, and the rows behind them have their digests.
+-- The items of recorded files, the first of them or all: they fit one after another, and the rows after them have their digests.
 use native.Mathlib.Omega.{arith}
 use Rattle.std.proofs.Common.{◌≡◌, ◌⊎◌, inl, inr, ◌≤◌, Bool, true, false, cond, List, [], ◌∷◌, ◌++◌, length, refl, sym, ap, ◌∙◌, subst, eqb-true}
 use Rattle.std.specs.Prelude.{◌==◌, ◌||◌, IsTrue}
@@ -14,7 +14,7 @@ use Rattle.row_tables.specs.Items.{is_further}
 use Rattle.blob_audit.specs.Order.{File}
 use Rattle.row_completion.specs.Completion.{AreDigested, IsFurtherOf, given, none, row_with, same}
 use Rattle.row_completion.specs.Gathering.{AreItemsOf}
-use Rattle.row_completion.proofs.Behind.{Before, before-more, changed-behind, complete-more, lacks-behind, lacks-none}
+use Rattle.row_completion.proofs.Behind.{Before, before-more, changed-after, complete-more, lacks-after, lacks-none}
 use Rattle.row_completion.proofs.Fitting.{AllFit}
 use Rattle.row_completion.proofs.Weaving.{Apart, Woven, cached, hosted}
 use Rattle.row_completion.proofs.Weaving as woven
@@ -47,7 +47,7 @@ module _ (shelf : Shelf) (documents : List RecordedDocument) (sessions : List Re
   abbrev pub tables : List RecordedRow → List RecordedRow → Tables
   tables hs cs = record { hosted = hs; cached = cs; documents = documents; sessions = sessions }
 
-  -- rows are completed behind others, once the first of these items are applied
+  -- rows are completed after others, once the first of these items are applied
   pub record Outcome (done others hs cs : List RecordedRow) (items front : List Item) : Type 0 where
     pub hosted_then : List RecordedRow
     pub cached_then : List RecordedRow
@@ -77,7 +77,7 @@ module _ (shelf : Shelf) (documents : List RecordedDocument) (sessions : List Re
   onto r new (inl e) old now so = subst (λ (n : RecordedRow). AreDigested shelf (r ∷ old) (n ∷ now)) (sym e) (same r old now so)
   onto r new (inr one) old now so = subst (λ (n : RecordedRow). AreDigested shelf (r ∷ old) (n ∷ now)) (sym one.3) (given r one.0 old now one.1 one.2 so)
 
-  -- a hosted row goes behind those that are done, as it then is
+  -- a hosted row goes after those that are done, as it then is
   hosted-next : (done others hs cs : List RecordedRow) (r new : RecordedRow) (items front items' front' : List Item) → IsNext r new → lacks_further new.row.blob.print ≡ false
       → (length items' ≤ length front' → length items ≤ length front)
       → (AllFit (tables ((done ++ new ∷ []) ++ hs) (others ++ cs)) front → AllFit (tables (done ++ r ∷ hs) (others ++ cs)) front')
@@ -108,7 +108,7 @@ module _ (shelf : Shelf) (documents : List RecordedDocument) (sessions : List Re
     all = λ most. let both = o.all (few most) in (both.0, (whole, both.1));
   }
 
-  -- one item that fits, and the tables behind it
+  -- one item that fits, and the tables after it
   item-fits : (t after : Tables) (item one : Item) (front : List Item) → item ≡ one → IsTrue (fits_on t one) → item_on t one ≡ after → AllFit after front → AllFit t (item ∷ front)
   item-fits t after item one front is fits on all =
       subst (λ (i : Item). AllFit t (i ∷ front)) (sym is) (fits, subst (λ (u : Tables). AllFit u front) (sym on) all)
@@ -118,19 +118,19 @@ module _ (shelf : Shelf) (documents : List RecordedDocument) (sessions : List Re
 
   hosted-fits : (done others hs cs : List RecordedRow) (r : RecordedRow) (further : Further) → lacks_further r.row.blob.print ≡ true → Apart r done
       → IsTrue (fits_on (tables (done ++ r ∷ hs) (others ++ cs)) (Digested r.repo r.row.path further))
-  hosted-fits done others hs cs r further lacks before = λ i. (lacks-behind r done hs before ∙ lacks) i || lacks_at r.repo r.row.path (others ++ cs)
+  hosted-fits done others hs cs r further lacks before = λ i. (lacks-after r done hs before ∙ lacks) i || lacks_at r.repo r.row.path (others ++ cs)
 
   hosted-on : (done others hs cs : List RecordedRow) (r : RecordedRow) (further : Further) → lacks_further r.row.blob.print ≡ true → Apart r done → Apart r hs
       → item_on (tables (done ++ r ∷ hs) (others ++ cs)) (Digested r.repo r.row.path further) ≡ tables ((done ++ row_with further r ∷ []) ++ hs) (others ++ cs)
   hosted-on done others hs cs r further lacks before behind =
       let f = digested further in
       ap (λ b. cond b (tables (change_recorded r.repo r.row.path f (done ++ r ∷ hs)) (others ++ cs)) (tables (done ++ r ∷ hs) (change_recorded r.repo r.row.path f (others ++ cs))))
-      (lacks-behind r done hs before ∙ lacks)
-      ∙ ap (λ rows. tables rows (others ++ cs)) (changed-behind r f done hs before behind ∙ regroup done (row_with further r) hs)
+      (lacks-after r done hs before ∙ lacks)
+      ∙ ap (λ rows. tables rows (others ++ cs)) (changed-after r f done hs before behind ∙ regroup done (row_with further r) hs)
 
   cached-fits : (done others hs cs : List RecordedRow) (r : RecordedRow) (further : Further) → lacks_further r.row.blob.print ≡ true → AreComplete done → Apart r hs → Apart r others
       → IsTrue (fits_on (tables (done ++ hs) (others ++ r ∷ cs)) (Digested r.repo r.row.path further))
-  cached-fits done others hs cs r further lacks complete apart before = λ i. lacks-none r done hs complete apart i || (lacks-behind r others cs before ∙ lacks) i
+  cached-fits done others hs cs r further lacks complete apart before = λ i. lacks-none r done hs complete apart i || (lacks-after r others cs before ∙ lacks) i
 
   cached-on : (done others hs cs : List RecordedRow) (r : RecordedRow) (further : Further) → lacks_further r.row.blob.print ≡ true → AreComplete done → Apart r hs → Apart r others → Apart r cs
       → item_on (tables (done ++ hs) (others ++ r ∷ cs)) (Digested r.repo r.row.path further) ≡ tables (done ++ hs) ((others ++ row_with further r ∷ []) ++ cs)
@@ -138,7 +138,7 @@ module _ (shelf : Shelf) (documents : List RecordedDocument) (sessions : List Re
       let f = digested further in
       ap (λ b. cond b (tables (change_recorded r.repo r.row.path f (done ++ hs)) (others ++ r ∷ cs)) (tables (done ++ hs) (change_recorded r.repo r.row.path f (others ++ r ∷ cs))))
       (lacks-none r done hs complete apart)
-      ∙ ap (λ rows. tables (done ++ hs) rows) (changed-behind r f others cs before behind ∙ regroup others (row_with further r) cs)
+      ∙ ap (λ rows. tables (done ++ hs) rows) (changed-after r f others cs before behind ∙ regroup others (row_with further r) cs)
 
   no-files : (done others : List RecordedRow) (items front : List Item) → items ≡ [] → AreFirst front items → Outcome done others [] [] items front
   no-files done others items [] empty first =

@@ -58,7 +58,7 @@ all-apart : (r : RecordedRow) (rows : List RecordedRow) → AllByRecursion (λ s
 all-apart r [] all = tt
 all-apart r (s ∷ rows) all = (apart-less r s all.0, all-apart r rows all.1)
 
--- a row that an earlier one comes behind is apart from it and from those behind that
+-- a row that an earlier one comes after is apart from it and from those after that
 apart-greater : (h c : RecordedRow) → is_at_most (row_cmp h c) ≡ false → at_place c h ≡ false
 apart-greater h c greater =
     elim (at_place c h) as (λ b. at_place c h ≡ b → b ≡ false) [
@@ -66,14 +66,14 @@ apart-greater h c greater =
       | false ↦ λ is. refl
     ] refl
 
-apart-behind : (h c : RecordedRow) → is_at_most (row_cmp h c) ≡ false → (rows : List RecordedRow) → AllByRecursion (λ s. row_cmp h s ≡ Less) rows → Apart c rows
-apart-behind h c greater [] all = tt
-apart-behind h c greater (s ∷ rows) all = (
+apart-after : (h c : RecordedRow) → is_at_most (row_cmp h c) ≡ false → (rows : List RecordedRow) → AllByRecursion (λ s. row_cmp h s ≡ Less) rows → Apart c rows
+apart-after h c greater [] all = tt
+apart-after h c greater (s ∷ rows) all = (
   elim (at_place c s) as (λ b. at_place c s ≡ b → b ≡ false) [
     | true ↦ λ is. absurd (let e : true ≡ false = sym (ap is_at_most (sym (like c s h is) ∙ all.0)) ∙ greater in cc)
     | false ↦ λ is. refl
   ] refl,
-  apart-behind h c greater rows all.1,
+  apart-after h c greater rows all.1,
 )
 
 abbrev pub file_of : Bool → RecordedRow → File
@@ -107,7 +107,7 @@ weave-at h hs rising after (c ∷ cs) others =
     elim (is_at_most (row_cmp h c)) as (λ b. is_at_most (row_cmp h c) ≡ b → Woven (h ∷ hs) (c ∷ cs) (cond b (file_of true h ∷ later) (file_of false c ∷ behind))) [
       | true ↦ λ first. hosted h hs (c ∷ cs) later (all-apart h hs rising.0) (after (c ∷ cs) others)
       | false ↦ λ greater.
-          cached c (h ∷ hs) cs behind (apart-greater h c greater, apart-behind h c greater hs rising.0) (all-apart c cs others.0)
+          cached c (h ∷ hs) cs behind (apart-greater h c greater, apart-after h c greater hs rising.0) (all-apart c cs others.0)
           (weave-at h hs rising after cs others.1)
     ] refl
 

@@ -12,7 +12,7 @@ use Rattle.row_completion.specs.Completion.{IsFurtherOf}
 abbrev pub items_of : File → Further → List Item
 items_of f further = if lacks_further f.row.row.blob.print then Digested f.row.repo f.row.row.path further ∷ [] else []
 
--- these items are those of a file, behind others
+-- these items are those of a file, after others
 abbrev pub Adds : Shelf → File → List Item → List Item → Type 0
 Adds shelf f old new = (further : Further) × IsFurtherOf shelf f.row further × (new ≡ old ++ items_of f further)
 

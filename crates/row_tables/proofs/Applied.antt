@@ -77,7 +77,7 @@ all_append test (item ∷ items) more one two =
     let parts = both (test item) (list_all test items) one in
     λ i. parts.0 i && all_append test items more parts.1 two i
 
--- a change behind what was recorded
+-- a change after what was recorded
 pub recorded_more : (items more : List Item) → AreRecorded items → IsTrue (list_all is_item more) → applied (with_items no_tables items) more ≡ Ok (with_items (with_items no_tables items) more) → AreRecorded (items ++ more)
 recorded_more items more are form fits = record {
   form = all_append is_item items more are.form form;

@@ -103,7 +103,7 @@ module _ (numbers : BTreeSet ℕ) (rows other new : List RecordedRow) (documents
       let old = or_false _ _ (among n none) in
       false_or _ _ (ap (list_any (λ (s : RecordedRow). s.row.blob.number == n)) is ∙ any_filtered (λ (s : RecordedRow). s.row.blob.number == n) p rows old.0) old.1
 
--- a session with a greater number behind the others
+-- a session with a greater number after the others
 all_push : (n k : ℕ) (new : RecordedSession) (ss : List RecordedSession) → new.number ≡ n → nat_lt k n ≡ true → list_all (λ (t : RecordedSession). nat_lt k t.number) ss ≡ true
     → list_all (λ (t : RecordedSession). nat_lt k t.number) (ss ++ new ∷ []) ≡ true
 all_push n k new [] is above all = ap (λ m. nat_lt k m && true) is ∙ ap (λ b. b && true) above

@@ -4,7 +4,7 @@ use Rattle.record_disk.specs.Disk.{Trace}
 use Rattle.record_disk.proofs.Moments.{weaker}
 use Rattle.repo_model.specs.declared.item.Item.{Item}
 use Rattle.repo_model.specs.Tables.{Tables}
-use Rattle.row_tables.specs.Stops.{IsOneOf, ReadsAmong, StopsLeave, left_by}
+use Rattle.row_tables.specs.Crashes.{IsOneOf, ReadsAmong, CrashesLeave, left_by}
 
 pub front : (t : Tables) (xs ys : List Tables) → IsOneOf t xs → IsOneOf t (xs ++ ys)
 front t [] ys is = absurd is
@@ -24,8 +24,8 @@ pub left-first : (t : Tables) (o : Option (List Item)) → IsOneOf t (left_by t 
 left-first t None = inl refl
 left-first t (Some items) = inl refl
 
--- a stop leaves one of more tables
-pub leaves-more : (ts us : List Tables) (a b : Option Trace) → StopsLeave ts a b → StopsLeave (ts ++ us) a b
+-- a crash leaves one of more tables
+pub leaves-more : (ts us : List Tables) (a b : Option Trace) → CrashesLeave ts a b → CrashesLeave (ts ++ us) a b
 leaves-more ts us None None left = tt
 leaves-more ts us None (Some b) left = left
 leaves-more ts us (Some a) None left = left

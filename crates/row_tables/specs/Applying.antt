@@ -17,7 +17,7 @@ pub record Tried (fits : Bool) (next old new : Tables) (made : Bool) : Type 0 wh
   pub fits_so : made ≡ fits
   pub then_so : new ≡ (if made then next else old)
 
--- the items were applied; or one of them misfits, and those before it were applied; or memory was wanting, and some of the
+-- the items were applied; or one of them misfits, and those before it were applied; or memory ran out, and some of the
 -- first ones, which fit, were applied
 abbrev pub Applies : Tables → List Item → Tables → Result (Unit {0}) ApplyFault → Type 0
 Applies old items new (Ok done) = applied old items ≡ Ok new

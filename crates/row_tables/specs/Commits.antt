@@ -1,4 +1,4 @@
--- The tables behind items that were committed.
+-- The tables after items that were committed.
 use Rattle.std.specs.Prelude.{List, Option}
 use Rattle.std.specs.Option.{option_map}
 use Rattle.repo_model.specs.declared.item.Item.{Item}

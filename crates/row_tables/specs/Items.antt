@@ -54,12 +54,12 @@ is_number n = nat_lt 0 n && nat_le n 9223372036854775807
 abbrev pub is_further : Further → Bool
 is_further f = (length f.sha256 == 32) && (length f.sha512 == 64)
 
-abbrev pub are_behind_sha1 : List ℕ → Option Further → Bool
-are_behind_sha1 md5 None = length md5 == 16
-are_behind_sha1 md5 (Some f) = (length md5 == 16) && is_further f
+abbrev pub are_after_sha1 : List ℕ → Option Further → Bool
+are_after_sha1 md5 None = length md5 == 16
+are_after_sha1 md5 (Some f) = (length md5 == 16) && is_further f
 
 abbrev pub is_print : Recorded → Bool
-is_print print = is_count print.length && ((length print.digests.sha1 == 20) && are_behind_sha1 print.digests.md5 print.digests.further)
+is_print print = is_count print.length && ((length print.digests.sha1 == 20) && are_after_sha1 print.digests.md5 print.digests.further)
 
 -- a document as it is settled for the directory of its path, of at most 4,100,000 bytes
 abbrev pub is_kept_in : Option Directory → Document → Bool
@@ -108,12 +108,12 @@ document_bytes document = to_be_bytes w32 (length (text document)) ++ text docum
 abbrev pub further_bytes : Further → List ℕ
 further_bytes f = f.sha256 ++ f.sha512
 
-abbrev pub behind_sha1 : List ℕ → Option Further → List ℕ
-behind_sha1 md5 None = md5
-behind_sha1 md5 (Some f) = md5 ++ further_bytes f
+abbrev pub after_sha1 : List ℕ → Option Further → List ℕ
+after_sha1 md5 None = md5
+after_sha1 md5 (Some f) = md5 ++ further_bytes f
 
 abbrev pub print_bytes : Recorded → List ℕ
-print_bytes print = to_be_bytes w64 print.length ++ (print.digests.sha1 ++ behind_sha1 print.digests.md5 print.digests.further)
+print_bytes print = to_be_bytes w64 print.length ++ (print.digests.sha1 ++ after_sha1 print.digests.md5 print.digests.further)
 
 abbrev pub result_bytes : SessionResult → List ℕ
 result_bytes Aborted = 0 ∷ to_be_bytes w64 0

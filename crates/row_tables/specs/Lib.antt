@@ -6,5 +6,5 @@ pub mod Recorded
 pub mod Commits
 pub mod Reading
 pub mod Loading
-pub mod Stops
-pub mod Stopping
+pub mod Crashes
+pub mod Crashing

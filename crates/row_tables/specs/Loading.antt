@@ -17,7 +17,7 @@ of_size size (Err at) = Err at
 abbrev pub change_in : List ℕ → Result (List Item) ℕ
 change_in payload = of_size (length payload) (taken payload)
 
--- an item that does not fit is told by the byte where it begins, behind the items in front of it
+-- an item that does not fit is told by the byte where it begins, after the items in front of it
 abbrev pub by_bytes : List Item → Result Tables ℕ → Result Tables ℕ
 by_bytes items (Ok t) = Ok t
 by_bytes items (Err place) = Err (length (change_bytes (take place items)))
@@ -34,7 +34,7 @@ abbrev pub next_frame : ℕ → (Tables → Result Tables LoadFault) → Result 
 next_frame frame go (Ok t) = go t
 next_frame frame go (Err at) = Err (Row frame at)
 
--- the tables after frames of which the first has a number, and behind which one may be cut short
+-- the tables after frames of which the first has a number, and after which one may be cut short
 abbrev pub after_frames : ℕ → Bool → Tables → List (List ℕ) → Result Tables LoadFault
 after_frames frame is_cut t [] = if is_cut then Err (Row frame 0) else Ok t
 after_frames frame is_cut t (payload ∷ payloads) = next_frame frame (λ u. after_frames (frame + 1) is_cut u payloads) (after_frame t payload)

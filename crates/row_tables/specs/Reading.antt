@@ -21,7 +21,7 @@ abbrev pub ◌>>=◌ : {A B : Type 0} → Result A ℕ → (A → Result B ℕ) 
 (Ok x) >>= f = f x
 (Err left) >>= f = Err left
 
--- a field: its value and the bytes behind it, or how many bytes are left at the start of what is refused
+-- a field: its value and the bytes after it, or how many bytes are left at the start of what is refused
 abbrev pub Field : Type 0 → Type 0
 Field A = List ℕ → Result (A × List ℕ) ℕ
 
@@ -92,7 +92,7 @@ abbrev pub print_at : Version → Field Recorded
 print_at First = short_at
 print_at Second = whole_at
 
--- what a file's item has behind its tag
+-- what a file's item has after its tag
 abbrev pub FileFields : Type 0
 FileFields = (List ℕ × List ℕ) × (ℕ × (Recorded × ℕ))
 
@@ -119,7 +119,7 @@ written_at path n bytes = bytes_at n bytes >>= λ t. if nat_le (length t.0) 4100
 unfoldable pub document_at : List ℕ → Field Document
 document_at path bytes = number_at w32 bytes >>= λ n. written_at path n.0 n.1
 
--- what a document's item has behind its tag
+-- what a document's item has after its tag
 unfoldable pub kept_at : Field ((List ℕ × List ℕ) × (ℕ × Document))
 kept_at bytes = then_at id_at document_path_at bytes >>= λ p. then_at moment_at (document_at p.0.1) p.1 >>= λ d. Ok ((p.0, d.0), d.1)
 

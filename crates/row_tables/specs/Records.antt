@@ -34,7 +34,7 @@ IsRefusal (Err (Row frame at)) = Unit {0}
 abbrev pub Expected : Type 0
 Expected = Result Tables LoadFault
 
--- a load gives what is expected, unless it fails or wants memory
+-- a load gives what is expected, unless it fails or runs out of memory
 abbrev pub LoadsUnlessFailed : Expected → Result Tables LoadFault → Type 0
 LoadsUnlessFailed expected (Ok t) = expected ≡ Ok t
 LoadsUnlessFailed expected (Err Failed) = Unit {0}
@@ -47,7 +47,7 @@ pub record MemState : Type 0 where
   pub items : List Item
   pub script : Script
 
--- after a load with this answer: a refusal and want of memory are no failures
+-- after a load with this answer: a refusal and out of memory are no failures
 abbrev pub script_after_load : {T : Type 0} → Script → Result T LoadFault → Script
 script_after_load script (Ok value) = script_passed script
 script_after_load script (Err Failed) = script_failed script

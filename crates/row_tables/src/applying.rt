@@ -151,7 +151,7 @@ impl Tables {
     }
 
     /// Applies the items of a change, in their order. At the first that does not fit it stops; those before it stay
-    /// applied. Where memory is wanting some of the first ones, which fit, stay applied.
+    /// applied. When memory runs out some of the first ones, which fit, stay applied.
     pub fn apply(&mut self, alloc: Global, change: &Change) -> Result<(), ApplyFault>
         ensures { Applies self.old change.now self.new result }
     {

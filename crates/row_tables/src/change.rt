@@ -54,7 +54,7 @@ impl Change {
         Change { items }
     }
 
-    /// Adds an item. Where memory is wanting it comes back.
+    /// Adds an item. When memory runs out it comes back.
     pub fn push(&mut self, item: Item) -> Result<(), AllocFailed<Item>>
         requires form { IsTrue (is_item item) }
         requires room { length (change_bytes (self.old ++ item ∷ [])) < 2 ^ 32 }
@@ -65,7 +65,7 @@ impl Change {
         self.items.push(item)
     }
 
-    /// Adds items at its end. Where memory is wanting it stays as it is.
+    /// Adds items at its end. When memory runs out it stays as it is.
     pub fn append(&mut self, mut items: Vec<Item>) -> Result<(), AllocError>
         requires { IsChange (self.old ++ items.items) }
         ensures ok { OnOk result (self.new ≡ self.old ++ items.items) }

@@ -6,7 +6,7 @@ ghost use Rattle.row_tables.specs.Applying.{with_items};
 ghost use Rattle.row_tables.specs.Items.{are_of};
 ghost use Rattle.row_tables.specs.Recorded.{IsBuiltUp};
 ghost use Rattle.row_tables.specs.Records.{Expected, HasLoadCause, HasCommitCause, IsRefusal, LoadsUnlessFailed};
-ghost use Rattle.row_tables.specs.Stops.{Unsettled, nothing_unsettled, HasCommitStop, Rests};
+ghost use Rattle.row_tables.specs.Crashes.{Unsettled, nothing_unsettled, HasCommitCrash, Rests};
 
 use crate::change::Change;
 use crate::faults::{CommitFault, LoadFault};
@@ -22,10 +22,10 @@ pub trait Records {
     // What is recorded, where it is told.
     ghost tables: { Self → Option Plain } = { λ _. None };
 
-    // What a load gives that neither fails nor wants memory, where it is told.
+    // What a load gives that neither fails nor runs out of memory, where it is told.
     ghost loading: { Self → Option Expected } = { λ _. None };
 
-    // What a stop may leave beside the tables: the change whose commit failed and that a start may still find, and the file that
+    // What a crash may leave beside the tables: the change whose commit failed and that a start may still find, and the file that
     // a start reads, where it is told.
     ghost unsettled: { Self → Unsettled } = { λ _. nothing_unsettled };
 
@@ -45,7 +45,7 @@ pub trait Records {
         ensures same { tables self.new ≡ tables self.old };
 
     /// Adds a change, each file of which has its SHA-256 and SHA-512. At `Ok` it is recorded for good, and no change whose commit failed is found any more. At an error the
-    /// tables are as before, and stay so once a later commit or load succeeds. A stop at any moment of the call leaves what a stop before it or behind it leaves.
+    /// tables are as before, and stay so once a later commit or load succeeds. A crash at any moment of the call leaves what a crash before it or after it leaves.
     fn commit(&mut self, alloc: Global, change: &Change) -> Result<(), CommitFault>
         requires ready { ready self.old }
         requires whole { IsTrue (are_of Version.Second change.now) }
@@ -54,9 +54,9 @@ pub trait Records {
         ensures ok { OnOk result (tables self.new ≡ option_map (λ t. with_items t change.now) (tables self.old)) }
         ensures err { OnErr result (tables self.new ≡ tables self.old) }
         ensures settled { OnOk result ((unsettled self.new).pending ≡ None) }
-        ensures stops { HasCommitStop change.now (tables self.old) (unsettled self.old) (unsettled self.new) result }
+        ensures crashes { HasCommitCrash change.now (tables self.old) (unsettled self.old) (unsettled self.new) result }
         ensures ready { ready self.new };
 
-    // A stop between calls leaves the tables, or these with the change that is pending.
+    // A crash between calls leaves the tables, or these with the change that is pending.
     ghost rests: { (r : Self) → ready r → Rests (tables r) (unsettled r) };
 }

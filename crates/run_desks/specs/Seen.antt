@@ -14,13 +14,13 @@ use Rattle.run_desks.specs.declared.objects.Cleaner.{Cleaner}
 use Rattle.run_desks.specs.declared.objects.Desk.{Desk}
 
 -- what a desk's own things tell: its store of blobs, and the remotes
-pub record Kit : Type 0 where
+pub record DeskResources : Type 0 where
   pub blobs : Store
   pub remote : Sees
 
 -- the same with other blobs
-abbrev pub with_blobs : Store → Kit → Kit
-with_blobs blobs kit = record kit { blobs = blobs }
+abbrev pub with_blobs : Store → DeskResources → DeskResources
+with_blobs blobs resources = record resources { blobs = blobs }
 
 -- how desks are seen: what a connection tells; of a port the connections that it will hand out, those that came back, and how many
 -- of its calls have failed; a desk's port and its own things; and that blobs in use tell their bytes
@@ -30,7 +30,7 @@ pub record Looks (L P D : Type 0) : Type 1 where
   pub given_back : P → Option (List L)
   pub faults : P → ℕ
   pub port : D → P
-  pub kit : D → Kit
+  pub resources : D → DeskResources
   pub tells : Type 0
 
 abbrev pub store_seen : {B H N : Type 0} → Storing B H N → B → Store
@@ -43,26 +43,26 @@ looks ports links stores held remotes = record {
   given_back = ports.given_back;
   faults = ports.faults;
   port = λ desk. desk.port;
-  kit = λ desk. record { blobs = store_seen stores desk.blobs; remote = remotes.sees desk.remote };
+  resources = λ desk. record { blobs = store_seen stores desk.blobs; remote = remotes.sees desk.remote };
   tells = AllTell held.bytes;
 }
 
 -- what is seen while a connection is served with these things, of which these bytes are held
-abbrev pub around : {L P D : Type 0} → Looks L P D → List ℕ → L → Kit → Outside
-around looks held link kit = outside looks.link held link kit.blobs.faults kit.blobs.shelf kit.remote
+abbrev pub around : {L P D : Type 0} → Looks L P D → List ℕ → L → DeskResources → Outside
+around looks held link resources = outside looks.link held link resources.blobs.faults resources.blobs.shelf resources.remote
 
 -- the cleaner: the pauses that its timer tells, and its blobs
-pub record Broom : Type 0 where
+pub record CleanerResources : Type 0 where
   pub pauses : Option Pauses
   pub blobs : Store
 
-abbrev pub broom : {B Q H N : Type 0} → Storing B H N → Pacing Q → Cleaner B Q H N → Broom
-broom stores paces cleaner = record { pauses = paces.pauses cleaner.pace; blobs = store_seen stores cleaner.blobs }
+abbrev pub cleaner_resources : {B Q H N : Type 0} → Storing B H N → Pacing Q → Cleaner B Q H N → CleanerResources
+cleaner_resources stores paces cleaner = record { pauses = paces.pauses cleaner.pace; blobs = store_seen stores cleaner.blobs }
 
 -- what a run works with: a desk or several, and the cleaner
-pub record Floor (D : Type 0) : Type 0 where
+pub record RunResources (D : Type 0) : Type 0 where
   pub desks : D
-  pub cleaner : Broom
+  pub cleaner : CleanerResources
 
-abbrev pub floor : {B Q H N D : Type 0} → Storing B H N → Pacing Q → D → Cleaner B Q H N → Floor D
-floor stores paces desks cleaner = record { desks = desks; cleaner = broom stores paces cleaner }
+abbrev pub run_resources : {B Q H N D : Type 0} → Storing B H N → Pacing Q → D → Cleaner B Q H N → RunResources D
+run_resources stores paces desks cleaner = record { desks = desks; cleaner = cleaner_resources stores paces cleaner }

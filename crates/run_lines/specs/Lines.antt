@@ -17,7 +17,7 @@ input_line = line (codes "mvnrepod: input")
 abbrev pub memory_line : List ℕ
 memory_line = line (codes "mvnrepod: memory")
 
--- why settings are refused, with the key or the id; want of memory is no refusal
+-- why settings are refused, with the key or the id; running out of memory is no refusal
 abbrev pub fault_text : SettingsFault → Option (List ℕ)
 fault_text NotToml = Some (codes "NotToml")
 fault_text (Unknown key) = Some (codes "Unknown " ++ key)

@@ -36,7 +36,7 @@ fn line_of(alloc: Global, fault: &SettingsFault) -> Result<Vec<u8>, AllocError>
     }
 }
 
-/// Prints why settings are refused, or that memory was wanting.
+/// Prints why settings are refused, or that memory ran out.
 pub fn refuse<O: Sink>(alloc: Global, out: &mut O, refusal: &SettingsFault) -> u8
     ensures { Refuses refusal.now (output (O.taken out.old) (O.write_faults out.old)) (output (O.taken out.new) (O.write_faults out.new)) result }
 {

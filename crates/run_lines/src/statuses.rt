@@ -21,7 +21,7 @@ pub const INPUT: u8 = 6;
 /// `out` failed, or the sink of the stream.
 pub const OUTPUT: u8 = 7;
 
-/// Want of memory.
+/// Out of memory.
 pub const NO_MEMORY: u8 = 8;
 
 /// A check has named a file whose blob is not what was recorded.

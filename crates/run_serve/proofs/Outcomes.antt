@@ -13,13 +13,13 @@ use Rattle.turn_lock.specs.declared.turns.Turns.{Turns}
 use Rattle.turn_lock.specs.declared.seat.SeatToken.{SeatToken as Seat}
 use Rattle.turn_lock.specs.History.{end_of}
 use Rattle.turn_lock.specs.Seats.{opening, Closes}
-use Rattle.run_desks.specs.Seen.{Floor, Looks}
+use Rattle.run_desks.specs.Seen.{RunResources, Looks}
 use Rattle.seat_server.specs.Rules.{Rules}
 use Rattle.desk_work.specs.Working.{Works}
 use Rattle.run_serve.specs.Calls.{TellsWork}
 use Rattle.run_serve.specs.Serving.{Opens, Serves, ServesBy, ServesWith, read, refused, worked}
 
-module _ {L P D C R : Type 0} (looks : Looks L P D) (rules : Rules Whole C R) (settings : Settings) (core : Whole) (old : Floor (List D)) (out : Output) (new : View (Floor (List D))) (status : ℕ)
+module _ {L P D C R : Type 0} (looks : Looks L P D) (rules : Rules Whole C R) (settings : Settings) (core : Whole) (old : RunResources (List D)) (out : Output) (new : View (RunResources (List D))) (status : ℕ)
     (turns : Turns Whole C R) (seat : Seat C R Whole) (left : Whole) (calls : ℕ) (failed : Bool) (opens : Opens core turns seat)
     (holds : HoldsRecords left new.records) (clock_is : new.clock ≡ left.state.clock) where
   pub served : (none : Bool)
@@ -39,7 +39,7 @@ first_set [] old new Related some is related = absurd (omega arith)
 first_set (desk ∷ desks) old new Related some is related = (subst (λ d. Related d new) is related, refl)
 
 -- settings that were read, and nothing printed
-pub serves-read : {L P D C R : Type 0} (looks : Looks L P D) (rules : Rules Whole C R) (settings : Settings) (old new : View (Floor (List D))) (status : ℕ) (mid : Output)
+pub serves-read : {L P D C R : Type 0} (looks : Looks L P D) (rules : Rules Whole C R) (settings : Settings) (old new : View (RunResources (List D))) (status : ℕ) (mid : Output)
     → Reads old.source new.source old.out mid (Ok settings) → ServesBy looks rules settings (record old { out = mid }) new status → Serves looks rules old new status
 serves-read looks rules settings old new status mid reads serves =
     read settings (reads.0, reads.1, refl) (subst (λ (o : Output). ServesBy looks rules settings (record old { out = o }) new status) reads.2 serves)

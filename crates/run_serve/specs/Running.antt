@@ -3,7 +3,7 @@ use Rattle.std.specs.Prelude.{ℕ, List}
 use Rattle.repo_run.specs.declared.actions.Action.{Action}
 use Rattle.repo_run.specs.declared.actions.Action.TheVariants.{Serve}
 use Rattle.repo_core.specs.Whole.{Whole}
-use Rattle.run_desks.specs.Seen.{Floor, Looks}
+use Rattle.run_desks.specs.Seen.{RunResources, Looks}
 use Rattle.repo_run.specs.Running.{Runs}
 use Rattle.repo_run.specs.Status.{IsStatusOfOpening, MatchAction}
 use Rattle.repo_run.specs.Surroundings.{View}
@@ -20,5 +20,5 @@ abbrev pub MatchRun : Action → ℕ → Type 0
 MatchRun command status = ByWords command (IsStatusOfOpening status) (MatchAction command status)
 
 -- what a run does
-abbrev pub RunsBy : {L P D C R : Type 0} → Looks L P D → Rules Whole C R → Action → View (Floor (List D)) → View (Floor (List D)) → ℕ → Type 0
+abbrev pub RunsBy : {L P D C R : Type 0} → Looks L P D → Rules Whole C R → Action → View (RunResources (List D)) → View (RunResources (List D)) → ℕ → Type 0
 RunsBy looks rules command old new status = ByWords command (Serves looks rules old new status) (Runs looks command old new status)

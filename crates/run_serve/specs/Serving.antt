@@ -4,7 +4,7 @@ use Rattle.repo_model.specs.Settings.{Settings}
 use Rattle.repo_core.specs.Whole.{Whole}
 use Rattle.repo_core.specs.declared.faults.StartFault.{StartFault}
 use Rattle.repo_course.specs.Cleaning.{Store}
-use Rattle.run_desks.specs.Seen.{Floor, Looks, with_blobs}
+use Rattle.run_desks.specs.Seen.{RunResources, Looks, with_blobs}
 use Rattle.run_lines.specs.Lines.{memory_line}
 use Rattle.run_lines.specs.Printing.{Output, Prints}
 use Rattle.run_lines.specs.Reading.{Reads}
@@ -24,11 +24,11 @@ Opens core turns seat = (opening turns ≡ core) × (seen seat ≡ []) × (mine 
 -- a desk has its port and its other things as they were, and other blobs
 abbrev pub OtherBlobs : {L P D : Type 0} → Looks L P D → (Store → Store → Type 0) → D → D → Type 0
 OtherBlobs looks Related old new =
-    (looks.port new ≡ looks.port old) × (looks.kit new ≡ with_blobs (looks.kit new).blobs (looks.kit old)) × Related (looks.kit old).blobs (looks.kit new).blobs
+    (looks.port new ≡ looks.port old) × (looks.resources new ≡ with_blobs (looks.resources new).blobs (looks.resources old)) × Related (looks.resources old).blobs (looks.resources new).blobs
 
 module _ {L P D C R : Type 0} (looks : Looks L P D) (rules : Rules Whole C R) where
-  -- A repository that was opened is worked with, or memory was wanting before any connection was served. What it changed is recorded, and a line tells the number of all calls, or that a port failed
-  pub data ServesWith (settings : Settings) (core : Whole) (old : Floor (List D)) (out : Output) (new : View (Floor (List D))) (status : ℕ) : Type 0 where
+  -- A repository that was opened is worked with, or memory ran out before any connection was served. What it changed is recorded, and a line tells the number of all calls, or that a port failed
+  pub data ServesWith (settings : Settings) (core : Whole) (old : RunResources (List D)) (out : Output) (new : View (RunResources (List D))) (status : ℕ) : Type 0 where
     refused : new.place ≡ old → HoldsRecords core new.records → new.clock ≡ core.state.clock → Prints memory_line out new.out → status ≡ 8
         → ServesWith settings core old out new status
     worked : (turns : Turns Whole C R) (seat : Seat C R Whole) (left : Whole) (calls : ℕ) (failed : Bool) → Opens core turns seat
@@ -37,14 +37,14 @@ module _ {L P D C R : Type 0} (looks : Looks L P D) (rules : Rules Whole C R) wh
         → ServesWith settings core old out new status
 
   -- The repository is opened over what is recorded and over the first desk's blobs, and worked with; or it is not opened, and a line tells why
-  pub data ServesBy (settings : Settings) (old new : View (Floor (List D))) (status : ℕ) : Type 0 where
+  pub data ServesBy (settings : Settings) (old new : View (RunResources (List D))) (status : ℕ) : Type 0 where
     not_started : (fault : StartFault) → FirstOnly (OtherBlobs looks (λ blobs blobs'. StartFails old.records new.records blobs blobs' fault)) old.place.desks new.place.desks
         → new.place.cleaner ≡ old.place.cleaner → new.clock ≡ old.clock → RefusesStart fault old.out new.out status → ServesBy settings old new status
     started : (core : Whole) (begun : List D) → FirstOnly (OtherBlobs looks (λ blobs blobs'. Begins settings old.records blobs blobs' old.clock core)) old.place.desks begun
         → ServesWith settings core (record old.place { desks = begun }) old.out new status → ServesBy settings old new status
 
   -- A server, by what comes of reading its settings: there are none, or they are served by
-  pub data Serves (old new : View (Floor (List D))) (status : ℕ) : Type 0 where
+  pub data Serves (old new : View (RunResources (List D))) (status : ℕ) : Type 0 where
     unread : Reads old.source new.source old.out new.out (Err status) → new.place ≡ old.place → LeavesRecords old.records new.records → new.clock ≡ old.clock
         → Serves old new status
     read : (settings : Settings) → Reads old.source new.source old.out old.out (Ok settings) → ServesBy settings old new status → Serves old new status

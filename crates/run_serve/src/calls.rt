@@ -32,7 +32,7 @@ fn tell_calls<O: Sink>(alloc: Global, out: &mut O, calls: u64) -> u8
     }
 }
 
-/// Prints how many calls there were, or that a port failed, or that memory was wanted before any connection was served.
+/// Prints how many calls there were, or that a port failed, or that memory ran out before any connection was served.
 pub fn tell_work<O: Sink>(alloc: Global, out: &mut O, refused: bool, failed: bool, calls: u64) -> u8
     ensures { MatchBool refused
         (Prints memory_line (output_seen ⟦<O as Tells>⟧ out.old) (output_seen ⟦<O as Tells>⟧ out.new) × (result ≡ 8))

@@ -24,7 +24,7 @@ use turn_seats::Repository;
 
 /// Does what the words ask for: the words of a server as `serve` does, and all others as `run_once`, by the same words. There is at
 /// least one desk, and all come back; where the words are no server's, the cleaner's timer is not asked. The statuses and the
-/// lines are those of the one or of the other; 8 comes with `mvnrepod: memory` where memory was wanting for reading the words.
+/// lines are those of the one or of the other; 8 comes with `mvnrepod: memory` when memory ran out for reading the words.
 pub fn run<
     P: Port + Drop + Send,
     B: Blobs + Drop + Send,

@@ -2,7 +2,7 @@
 ghost use Rattle.std.specs.Prelude.{◌≡◌, ◌<◌, vec_len};
 ghost use Rattle.seat_server.specs.Rules.{rules};
 ghost use Rattle.repo_run.specs.Surroundings.{output_seen, view, view_of};
-ghost use Rattle.run_desks.specs.Seen.{floor, looks};
+ghost use Rattle.run_desks.specs.Seen.{run_resources, looks};
 ghost use Rattle.run_lines.specs.Reading.{File};
 ghost use Rattle.run_serve.specs.Serving.{Serves, ServesBy, ServesWith};
 
@@ -48,8 +48,8 @@ where
     B::Pen: Send,
     requires settings { core.settings ≡ settings }
     ensures serves { (source : File) → ServesWith (looks ⟦<P as Port>⟧ ⟦<P::Link as Tells>⟧ ⟦<B as Blobs>⟧ ⟦<B::Held as Held>⟧ ⟦<R as Remote>⟧)
-        (rules ⟦<Core<K, C, B::Held> as Thing>⟧ ⟦<Core<K, C, B::Held> as Repository>⟧.sight) settings core (floor ⟦<B as Blobs>⟧ ⟦<Q as Pace>⟧ desks.items cleaner) (output_seen ⟦<O as Tells>⟧ out.old)
-        (view_of ⟦<K as Records>⟧ ⟦<C as Clock>⟧ ⟦<O as Tells>⟧ source (floor ⟦<B as Blobs>⟧ ⟦<Q as Pace>⟧ result.desks.items result.cleaner) result.records result.clock out.new)
+        (rules ⟦<Core<K, C, B::Held> as Thing>⟧ ⟦<Core<K, C, B::Held> as Repository>⟧.sight) settings core (run_resources ⟦<B as Blobs>⟧ ⟦<Q as Pace>⟧ desks.items cleaner) (output_seen ⟦<O as Tells>⟧ out.old)
+        (view_of ⟦<K as Records>⟧ ⟦<C as Clock>⟧ ⟦<O as Tells>⟧ source (run_resources ⟦<B as Blobs>⟧ ⟦<Q as Pace>⟧ result.desks.items result.cleaner) result.records result.clock out.new)
         result.status }
 {
     let (turns, seat) = match Turns::begin(alloc, core) {
@@ -112,8 +112,8 @@ where
     requires desks { 0 < vec_len desks }
     ensures serves { (source source' : File) → ServesBy (looks ⟦<P as Port>⟧ ⟦<P::Link as Tells>⟧ ⟦<B as Blobs>⟧ ⟦<B::Held as Held>⟧ ⟦<R as Remote>⟧)
         (rules ⟦<Core<K, C, B::Held> as Thing>⟧ ⟦<Core<K, C, B::Held> as Repository>⟧.sight) settings
-        (view_of ⟦<K as Records>⟧ ⟦<C as Clock>⟧ ⟦<O as Tells>⟧ source (floor ⟦<B as Blobs>⟧ ⟦<Q as Pace>⟧ desks.items cleaner) records clock out.old)
-        (view_of ⟦<K as Records>⟧ ⟦<C as Clock>⟧ ⟦<O as Tells>⟧ source' (floor ⟦<B as Blobs>⟧ ⟦<Q as Pace>⟧ result.desks.items result.cleaner) result.records result.clock out.new)
+        (view_of ⟦<K as Records>⟧ ⟦<C as Clock>⟧ ⟦<O as Tells>⟧ source (run_resources ⟦<B as Blobs>⟧ ⟦<Q as Pace>⟧ desks.items cleaner) records clock out.old)
+        (view_of ⟦<K as Records>⟧ ⟦<C as Clock>⟧ ⟦<O as Tells>⟧ source' (run_resources ⟦<B as Blobs>⟧ ⟦<Q as Pace>⟧ result.desks.items result.cleaner) result.records result.clock out.new)
         result.status }
 {
     let mut desks = desks;
@@ -144,7 +144,7 @@ where
 /// | 5 | a recorded file's blob is not what was recorded | `mvnrepod: damaged ..` |
 /// | 6 | the source of the settings failed, or a port | `mvnrepod: input` |
 /// | 7 | `out` failed at the line of status 0 | a front of it |
-/// | 8 | memory was wanting before any connection was served, or for a line | `mvnrepod: memory` |
+/// | 8 | memory ran out before any connection was served, or for a line | `mvnrepod: memory` |
 ///
 /// Each failure is one that its object counted. N is the number of calls of the repository: the length of the one history of all
 /// desks and the cleaner, in which each call is answered as the one-thread repository would at that point.

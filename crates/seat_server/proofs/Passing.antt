@@ -8,7 +8,7 @@ use Rattle.repo_model.specs.Settings.{Settings}
 use Rattle.repo_course.specs.declared.outcomes.CleanFault.{CleanFault}
 use Rattle.repo_course.specs.declared.outcomes.Cleaned.{Cleaned}
 use Rattle.repo_course.specs.Cleaning.{PassesAll, Store}
-use Rattle.run_desks.specs.Seen.{Broom}
+use Rattle.run_desks.specs.Seen.{CleanerResources}
 use Rattle.turn_lock.specs.declared.turns.Turns.{Turns}
 use Rattle.turn_lock.specs.declared.seat.SeatToken.{SeatToken as Seat}
 use Rattle.turn_lock.specs.Seats.{IsSeatOf}
@@ -18,7 +18,7 @@ use Rattle.seat_server.specs.Rules.{Rules}
 use Rattle.seat_server.specs.Passages.{Passage, PassesThrough, entries_in, Answers, AnswersTrue, KeptClean}
 
 -- the passes so far, and the pauses before them
-pub record SoFar {T C R : Type 0} (rules : Rules T C R) (settings : Settings) (turns : Turns T C R) (old new : Seat C R T) (before after : Broom) : Type 0 where
+pub record SoFar {T C R : Type 0} (rules : Rules T C R) (settings : Settings) (turns : Turns T C R) (old new : Seat C R T) (before after : CleanerResources) : Type 0 where
   pub passages : List Passage
   pub passes : PassesThrough settings before.blobs passages after.blobs
   pub gained : Gained rules.sight rules.steps turns old (entries_in passages) new
@@ -35,10 +35,10 @@ true_more seconds [] p old mid so answer = (subst (Answers true) so answer, ap (
 true_more seconds (q ∷ qs) p old mid so answer = (so.0, true_more seconds qs p (option_map (paused seconds) old) mid so.1 answer)
 
 module _ {T C R : Type 0} (rules : Rules T C R) (settings : Settings) (turns : Turns T C R) where
-  pub so_far_none : (seat : Seat C R T) (cleaner : Broom) → IsSeatOf rules.steps turns seat → SoFar rules settings turns seat seat cleaner cleaner
+  pub so_far_none : (seat : Seat C R T) (cleaner : CleanerResources) → IsSeatOf rules.steps turns seat → SoFar rules settings turns seat seat cleaner cleaner
   so_far_none seat cleaner is = record { passages = []; passes = refl; gained = gained_none rules.sight rules.steps turns seat is; paced = refl }
 
-  pub so_far_more : (a b c : Seat C R T) (before mid after : Broom) (entries : List Entry) (result : Result Cleaned CleanFault)
+  pub so_far_more : (a b c : Seat C R T) (before mid after : CleanerResources) (entries : List Entry) (result : Result Cleaned CleanFault)
       → SoFar rules settings turns a b before mid → Answers true mid.pauses → after.pauses ≡ option_map (paused settings.clean) mid.pauses
       → PassesAll settings entries mid.blobs after.blobs result → Gained rules.sight rules.steps turns b entries c → SoFar rules settings turns a c before after
   so_far_more a b c before mid after entries result one answer is pass gained =
@@ -53,7 +53,7 @@ module _ {T C R : Type 0} (rules : Rules T C R) (settings : Settings) (turns : T
         paced = subst (AnswersTrue settings.clean (length (one.passages ++ p ∷ [])) before.pauses) (sym is) (true_more settings.clean one.passages p before.pauses mid.pauses one.paced answer);
       }
 
-  pub so_far_ends : (a b : Seat C R T) (before mid after : Broom) → SoFar rules settings turns a b before mid
+  pub so_far_ends : (a b : Seat C R T) (before mid after : CleanerResources) → SoFar rules settings turns a b before mid
       → Answers false mid.pauses → after.pauses ≡ option_map (paused settings.clean) mid.pauses → after.blobs ≡ mid.blobs → KeptClean rules settings turns a b before after
   so_far_ends a b before mid after one answer is same = record {
     passages = one.passages;

@@ -8,13 +8,13 @@ use Rattle.repo_model.specs.Settings.{Settings}
 use Rattle.repo_course.specs.declared.outcomes.CleanFault.{CleanFault}
 use Rattle.repo_course.specs.declared.outcomes.Cleaned.{Cleaned}
 use Rattle.repo_course.specs.Cleaning.{PassesAll, Store}
-use Rattle.run_desks.specs.Seen.{Broom}
+use Rattle.run_desks.specs.Seen.{CleanerResources}
 use Rattle.turn_lock.specs.declared.turns.Turns.{Turns}
 use Rattle.turn_lock.specs.declared.seat.SeatToken.{SeatToken as Seat}
 use Rattle.seat_server.specs.Gained.{Gained}
 use Rattle.seat_server.specs.Rules.{Rules}
 
--- one pass: its entries, what came of it, and the blobs behind it
+-- one pass: its entries, what came of it, and the blobs after it
 pub record Passage : Type 0 where
   pub entries : List Entry
   pub result : Result Cleaned CleanFault
@@ -43,7 +43,7 @@ abbrev pub IsPaced : ℕ → ℕ → Option Pauses → Option Pauses → Type 0
 IsPaced seconds n old new = (last : Option Pauses) × AnswersTrue seconds n old last × Answers false last × (new ≡ option_map (paused seconds) last)
 
 -- After each pause that answered true, one pass was made, up to the first that answered false; and the seat gained just the entries of the passes
-pub record KeptClean {T C R : Type 0} (rules : Rules T C R) (settings : Settings) (turns : Turns T C R) (old new : Seat C R T) (before after : Broom) : Type 0 where
+pub record KeptClean {T C R : Type 0} (rules : Rules T C R) (settings : Settings) (turns : Turns T C R) (old new : Seat C R T) (before after : CleanerResources) : Type 0 where
   pub passages : List Passage
   pub passes : PassesThrough settings before.blobs passages after.blobs
   pub gained : Gained rules.sight rules.steps turns old (entries_in passages) new

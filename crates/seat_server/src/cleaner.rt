@@ -3,7 +3,7 @@ ghost use Rattle.std.specs.Prelude.{◌≡◌};
 ghost use Rattle.seat_server.specs.Passages.{KeptClean};
 ghost use Rattle.seat_server.specs.Rules.{rules};
 ghost use Rattle.repo_model.specs.Shown.{shown_command, shown_reply};
-ghost use Rattle.run_desks.specs.Seen.{broom};
+ghost use Rattle.run_desks.specs.Seen.{cleaner_resources};
 ghost use Rattle.turn_lock.specs.History.{IsStep};
 ghost use Rattle.turn_lock.specs.Seats.{opening, IsSeatOf};
 
@@ -36,7 +36,7 @@ pub fn keep_clean<
     requires seat { IsSeatOf (IsStep T.fixed T.may_ask T.turned) turns.now seat }
     requires settings { T.sight.settings (opening turns.now) ≡ settings.now }
     ensures { KeptClean (rules ⟦<T as Thing>⟧ T.sight) settings.now turns.now seat result
-        (broom ⟦<B as Blobs>⟧ ⟦<Q as Pace>⟧ cleaner.old) (broom ⟦<B as Blobs>⟧ ⟦<Q as Pace>⟧ cleaner.new) }
+        (cleaner_resources ⟦<B as Blobs>⟧ ⟦<Q as Pace>⟧ cleaner.old) (cleaner_resources ⟦<B as Blobs>⟧ ⟦<Q as Pace>⟧ cleaner.new) }
 {
     let seconds = settings.clean_seconds();
     for _ in rt.forever() {

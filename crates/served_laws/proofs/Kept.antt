@@ -1,4 +1,4 @@
--- The bytes that stores acknowledged outlast stops: what was handed over was stored, each blob under a number of its own.
+-- The bytes that stores acknowledged outlast crashes: what was handed over was stored, each blob under a number of its own.
 use native.Mathlib.Omega.{arith}
 use Rattle.std.proofs.Common.{◌≡◌, ◌≤◌, inl, inr, ℕ, List, [], ◌∷◌, ◌++◌, map, Some, Option, refl, sym, subst, ap, ◌∙◌, append_assoc, option_map}
 use Rattle.std.specs.Prelude.{IsTrue, length, take}
@@ -16,14 +16,14 @@ use Rattle.repo_model.specs.Tables.{Tables, names_blob}
 use Rattle.repo_laws.specs.Closed.{all_given_out}
 use Rattle.repo_laws.specs.Described.{IsAmong}
 use Rattle.repo_laws.proofs.HoldingLists.{all-split}
-use Rattle.row_tables.specs.Stops.{Unsettled}
+use Rattle.row_tables.specs.Crashes.{Unsettled}
 use Rattle.blob_audit.specs.Damages.{print_of}
-use Rattle.stop_laws.specs.Found.{HasStored, IsWholeWithout}
-use Rattle.stop_laws.specs.Handed.{AllHandTold, AnyHands, HandOnce, HandsTold, IsTold, acknowledged_by, handed, left_without}
-use Rattle.stop_laws.specs.Runs.{IsAnsweredBy}
-use Rattle.stop_laws.specs.Stops.{MayNotGo}
-use Rattle.stop_laws.proofs.Handed.{acknowledged-at, all-acknowledged, others-kept, recorded-stored}
-use Rattle.stop_laws.proofs.RunLaws.{finds-more}
+use Rattle.crash_laws.specs.Found.{HasStored, IsWholeWithout}
+use Rattle.crash_laws.specs.Handed.{AllHandTold, AnyHands, HandOnce, HandsTold, IsTold, acknowledged_by, handed, left_without}
+use Rattle.crash_laws.specs.Runs.{IsAnsweredBy}
+use Rattle.crash_laws.specs.Crashes.{MayNotGo}
+use Rattle.crash_laws.proofs.Handed.{acknowledged-at, all-acknowledged, others-kept, recorded-stored}
+use Rattle.crash_laws.proofs.RunLaws.{finds-more}
 use Rattle.repo_core.specs.Whole.{Whole}
 use Rattle.repo_course.specs.Cleaning.{Store}
 use Rattle.answer_laws.specs.Marked.{IsAt, Mark, entries_of, own_entry}
@@ -35,9 +35,9 @@ use Rattle.repo_run.specs.FirstConnection.{Makes}
 use Rattle.turn_lock.specs.declared.view.Entry.{Entry as Call}
 use Rattle.turn_seats.specs.Seated.{Sight, entry_of}
 use Rattle.served_laws.specs.Kept.{BytesOutlast, BytesStand, KeepsBytes}
-use Rattle.served_laws.specs.Stopped.{FindsSince, IsAnsweredStill, Made, OutlastsStops, RecordsOutlastStops, calls_made, entries_made, turns_made}
+use Rattle.served_laws.specs.Crashed.{FindsSince, IsAnsweredStill, Made, OutlastsCrashes, RecordsOutlastCrashes, calls_made, entries_made, turns_made}
 use Rattle.served_laws.proofs.Runs.{begun-stands}
-use Rattle.served_laws.proofs.Stopped.{made-on}
+use Rattle.served_laws.proofs.Crashed.{made-on}
 use Rattle.served_laws.proofs.Swept.{swept-stored}
 
 any-left : (n : ℕ) (xs ys : List Entry) → AnyHands n xs → AnyHands n (xs ++ ys)
@@ -56,7 +56,7 @@ pub since-more : (settings : Settings) (start : State) (t : Tables) (old : Unset
 since-more settings start t old front later P Q more (between, inside) = (λ u found. more u (between u found), finds-more P Q _ _ more inside)
 
 module _ (settings : Settings) (start : State) (t : Tables) (old : Unsettled) (shelf : Shelf) (those : Numbered) (told_so : shelf.blobs ≡ Some those) (made : List Made)
-    (outlasts : OutlastsStops settings start t old made) (told : AllHandTold (entries_made made)) (once : HandOnce (entries_made made))
+    (outlasts : OutlastsCrashes settings start t old made) (told : AllHandTold (entries_made made)) (once : HandOnce (entries_made made))
     (drawn : (n : ℕ) → IsTrue (names_blob n t) → AnyHands n (entries_made made) → ⊥) (stored : HasStored shelf t) where
   -- what is known of all holds of the first ones
   firsts : (some rest : List Made) → made ≡ some ++ rest → AllHandTold (entries_made some) × HandOnce (entries_made some) × ((n : ℕ) → IsTrue (names_blob n t) → AnyHands n (entries_made some) → ⊥)
@@ -132,7 +132,7 @@ body-came count came entries e repo path n blob bytes all among is bytes_are =
 
 -- of a repository that was opened over records which told what they had, and a store which told what the start left of it
 module _ (settings : Settings) (records : Recorded) (old cleared : Store) (clock : Option Moments) (core : Whole) (begins : Begins settings records old cleared clock core) where
-  pub keeps-bytes : (records' : Recorded) (made : List Made) → RecordsOutlastStops settings records core records' made → AllHandTold (entries_made made) → HandOnce (entries_made made)
+  pub keeps-bytes : (records' : Recorded) (made : List Made) → RecordsOutlastCrashes settings records core records' made → AllHandTold (entries_made made) → HandOnce (entries_made made)
       → ((n : ℕ) → AnyHands n (entries_made made) → core.state.yard.next_draft ≤ n) → KeepsBytes settings records cleared.shelf core made
   keeps-bytes records' made outlasts told once drawn those before told_shelf told_before =
       let run = outlasts before told_before in

@@ -1,6 +1,6 @@
 mod Woven
 mod Showing
-mod Stopped
+mod Crashed
 mod Runs
 mod Swept
 mod Refused

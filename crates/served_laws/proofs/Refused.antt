@@ -16,10 +16,10 @@ use Rattle.blob_audit.specs.Order.{all_rows}
 use Rattle.blob_audit.specs.declared.damages.Damaged.{Damaged}
 use Rattle.row_completion.specs.Completion as digests
 use Rattle.row_completion.specs.Completion.{AreDigested, IsDigested, IsFurtherOf, row_with}
-use Rattle.stop_laws.specs.Found.{AreStored, HasStored, IsStored}
-use Rattle.stop_laws.proofs.AllRows.{all-rows, rows-all}
-use Rattle.stop_laws.proofs.Begun.{whole-stored}
-use Rattle.stop_laws.proofs.Handed.{whole-itself}
+use Rattle.crash_laws.specs.Found.{AreStored, HasStored, IsStored}
+use Rattle.crash_laws.proofs.AllRows.{all-rows, rows-all}
+use Rattle.crash_laws.proofs.Begun.{whole-stored}
+use Rattle.crash_laws.proofs.Handed.{whole-itself}
 
 module _ (shelf : Shelf) (those : Numbered) (told : shelf.blobs ≡ Some those) where
   found-is : (n : ℕ) (found : Option Print) → IsFound shelf n found → found ≡ option_map print_of (bytes_at n those)

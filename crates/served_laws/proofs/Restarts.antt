@@ -7,13 +7,13 @@ use Rattle.repo_laws.specs.Holds.{told, with_items}
 use Rattle.repo_laws.specs.InRange.{Completes, Follow, Run}
 use Rattle.repo_laws.proofs.Completing.{completed-order}
 use Rattle.repo_run.specs.Surroundings.{View}
-use Rattle.run_desks.specs.Seen.{Floor, Looks}
+use Rattle.run_desks.specs.Seen.{RunResources, Looks}
 use Rattle.served_laws.specs.Restarted.{RestartShows, ShowsWhatWasNamedIn, both, idle_earlier, idle_later}
 use Rattle.served_laws.specs.Runs.{ServerShows, idle, served}
 use Rattle.served_laws.proofs.Across.{shows-later}
 use Rattle.served_laws.proofs.Showing.{desks-again}
 
-module _ {L P D : Type 0} (looks : Looks L P D) (settings : Settings) (tables : Tables) (old new later_old later_new : View (Floor (List D)))
+module _ {L P D : Type 0} (looks : Looks L P D) (settings : Settings) (tables : Tables) (old new later_old later_new : View (RunResources (List D)))
     (told_so : old.records.tables ≡ Some tables) (passed : later_old.records.tables ≡ new.records.tables) where
   pub restart-shows : ServerShows looks settings old new → ServerShows looks settings later_old later_new → RestartShows looks settings old new later_old later_new
   restart-shows (idle same still) later = idle_earlier same

@@ -21,10 +21,10 @@ use Rattle.repo_laws.proofs.StartedSound.{started-sound}
 use Rattle.repo_laws.proofs.Untouched.{untouched}
 use Rattle.table_laws.proofs.Building.{built-order, built-range}
 use Rattle.row_tables.specs.Commits.{tables_with}
-use Rattle.row_tables.specs.Stops.{IsOneOf, Rests, Unsettled, left_by}
-use Rattle.stop_laws.specs.Found.{AreStagedStored}
-use Rattle.stop_laws.proofs.Begun.{starts-staged}
-use Rattle.stop_laws.proofs.RunLaws.{among-finds}
+use Rattle.row_tables.specs.Crashes.{IsOneOf, Rests, Unsettled, left_by}
+use Rattle.crash_laws.specs.Found.{AreStagedStored}
+use Rattle.crash_laws.proofs.Begun.{starts-staged}
+use Rattle.crash_laws.proofs.RunLaws.{among-finds}
 use Rattle.row_completion.specs.Completion.{IsDigestedWhereTold}
 use Rattle.row_completion.proofs.Digesting.{completes-so}
 use Rattle.repo_core.specs.CoreTurn.{CoreTurn}
@@ -40,8 +40,8 @@ use Rattle.turn_lock.specs.History as calls
 use Rattle.turn_seats.specs.Seated.{Sight, entry_of}
 use Rattle.settings_laws.proofs.Apart.{named-apart, proxies-apart}
 use Rattle.served_laws.specs.Runs.{CompletesTold, IsClosed, RecordsTables}
-use Rattle.served_laws.specs.Stopped.{CleanOutlasts, Made, RecordsOutlastStops, entries_made, left_behind, turns_made, unsettled_behind}
-use Rattle.served_laws.proofs.Stopped.{GoesOn, outlasts, turns-go-on}
+use Rattle.served_laws.specs.Crashed.{CleanOutlasts, Made, RecordsOutlastCrashes, entries_made, left_behind, turns_made, unsettled_after}
+use Rattle.served_laws.proofs.Crashed.{GoesOn, outlasts, turns-go-on}
 
 same-tables : (tables : Option Tables) → tables ≡ option_map (λ t. with_items t []) tables
 same-tables None = refl
@@ -133,14 +133,14 @@ module _ (settings : Settings) (records : Recorded) (old cleared : Store) (clock
         },
       )
 
-  -- what it made outlasts stops
+  -- what it made outlasts crashes
   pub begun-outlasts : (records' : Recorded) (left : Whole) (made : List Made) → ((t : Tables) → core.tables ≡ Some t → GoesOn settings core t made left) → HoldsRecords left records'
-      → RecordsOutlastStops settings records core records' made
+      → RecordsOutlastCrashes settings records core records' made
   begun-outlasts records' left made goes_on holds before told_so =
       let told_core : core.tables ≡ Some begins.tables = begins.tables_are ∙ ap (option_map (λ (t : Tables). begins.tables)) told_so in
       let on : GoesOn settings core begins.tables made left = goes_on begins.tables told_core in
       let last : Tables = with_items begins.tables (told settings core.state (entries_made made)) in
-      let unsettled_back : records'.unsettled ≡ unsettled_behind core.unsettled made = holds.2 ∙ on.unsettled in
+      let unsettled_back : records'.unsettled ≡ unsettled_after core.unsettled made = holds.2 ∙ on.unsettled in
       record {
         whole = begins.tables;
         told_core = told_core;
@@ -158,7 +158,7 @@ module _ (settings : Settings) (records : Recorded) (old cleared : Store) (clock
 
   -- so do its turns, one after another
   pub begun-turns : (records' : Recorded) (left : Whole) (entries : List Entry) (makes : Makes core entries left) → HoldsRecords left records'
-      → RecordsOutlastStops settings records core records' (turns_made entries core left makes)
+      → RecordsOutlastCrashes settings records core records' (turns_made entries core left makes)
   begun-turns records' left entries makes =
       begun-outlasts records' left (turns_made entries core left makes) (λ t told_so. turns-go-on settings entries core left t makes begins.settings_are told_so)
 

@@ -16,19 +16,19 @@ use Rattle.turn_lock.specs.History.{end_of}
 use Rattle.turn_lock.specs.History as locked
 use Rattle.turn_lock.specs.Seats.{opening}
 use Rattle.turn_seats.specs.Seated.{entry_of}
-use Rattle.run_desks.specs.Seen.{Floor, Looks}
+use Rattle.run_desks.specs.Seen.{RunResources, Looks}
 use Rattle.seat_server.specs.Rules.{Rules}
 use Rattle.desk_laws.proofs.HandedOver.{works-drawn, works-once, works-told}
-use Rattle.stop_laws.specs.Handed.{AllHandTold, AnyHands, HandOnce}
+use Rattle.crash_laws.specs.Handed.{AllHandTold, AnyHands, HandOnce}
 use Rattle.run_serve.specs.Serving.{OtherBlobs, ServesBy, not_started, refused, started, worked}
 use Rattle.served_laws.specs.Kept.{ServerKeepsBytes}
 use Rattle.served_laws.specs.Runs.{CompletesTold, ServerShows, idle, served}
 use Rattle.served_laws.specs.Shown.{DesksShow}
-use Rattle.served_laws.specs.Stopped.{ServerOutlasts, calls_made}
+use Rattle.served_laws.specs.Crashed.{ServerOutlasts, calls_made}
 use Rattle.served_laws.proofs.Kept.{entries-called, keeps-bytes}
 use Rattle.served_laws.proofs.Runs.{begun-closed, begun-completes, begun-outlasts, begun-records, made, told-completed}
 use Rattle.served_laws.proofs.Showing.{desks-show}
-use Rattle.served_laws.proofs.Stopped.{GoesOn, calls-go-on, stays}
+use Rattle.served_laws.proofs.Crashed.{GoesOn, calls-go-on, stays}
 
 -- where only the first desk is another, and its port is as it was, all ports are
 same-ports : {D P : Type 0} (port : D → P) (Related : D → D → Type 0) → ((old new : D) → Related old new → port new ≡ port old)
@@ -54,16 +54,16 @@ module _ {L P D C R : Type 0} (looks : Looks L P D) (rules : Rules Whole C R)
     (is_turn : (before after : Whole) (call : C) (reply : R) → rules.steps before call reply after
     → CoreTurn before.settings before (entry_of rules.sight (record { by = 0; call = call; reply = reply; after = after })) after)
     (settings : Settings) where
-  pub server-shows : (old new : View (Floor (List D))) (status : ℕ) → ServesBy looks rules settings old new status → ServerShows looks settings old new
-  server-shows old new status (not_started fault only same_broom same_clock told) =
+  pub server-shows : (old new : View (RunResources (List D))) (status : ℕ) → ServesBy looks rules settings old new status → ServerShows looks settings old new
+  server-shows old new status (not_started fault only same_cleaner_resources same_clock told) =
       let desks = old.place.desks in
       let back = new.place.desks in
       let first = first-of _ desks back only in
-      idle (same-ports looks.port _ (λ one other is. is.0) desks back only) (told-completed (looks.kit first.0).blobs.shelf old.records.tables new.records.tables first.2.2.tables)
+      idle (same-ports looks.port _ (λ one other is. is.0) desks back only) (told-completed (looks.resources first.0).blobs.shelf old.records.tables new.records.tables first.2.2.tables)
   server-shows old new status (started core begun only (refused is holds same_clock told status_is)) =
       let desks = old.place.desks in
       let first = first-of _ desks begun only in
-      idle (ap (λ (f : Floor (List D)). map looks.port f.desks) is ∙ same-ports looks.port _ (λ one other so. so.0) desks begun only) (subst (CompletesTold old.records.tables) (sym holds.0) (begun-completes settings old.records _ _ old.clock core first.2.2))
+      idle (ap (λ (f : RunResources (List D)). map looks.port f.desks) is ∙ same-ports looks.port _ (λ one other so. so.0) desks begun only) (subst (CompletesTold old.records.tables) (sym holds.0) (begun-completes settings old.records _ _ old.clock core first.2.2))
   server-shows old new status (started core begun only (worked turns seat left calls failed opens works holds same_clock told)) =
       let first = first-of _ old.place.desks begun only in
       let begins = first.2.2 in
@@ -82,9 +82,9 @@ module _ {L P D C R : Type 0} (looks : Looks L P D) (rules : Rules Whole C R)
       served core begun history only closed_so (subst (λ (bs : List D). DesksShow looks (ShowsWhatWasNamed settings core.state) settings history begun bs) (sym works.back_are) shown)
       (begun-records settings old.records _ _ old.clock core begins new.records left history made_so holds)
 
-  -- what its repository made outlasts stops
-  pub server-outlasts : (old new : View (Floor (List D))) (status : ℕ) (serves : ServesBy looks rules settings old new status) → ServerOutlasts looks rules settings old new status serves
-  server-outlasts old new status (not_started fault only same_broom same_clock told) = tt
+  -- what its repository made outlasts crashes
+  pub server-outlasts : (old new : View (RunResources (List D))) (status : ℕ) (serves : ServesBy looks rules settings old new status) → ServerOutlasts looks rules settings old new status serves
+  server-outlasts old new status (not_started fault only same_cleaner_resources same_clock told) = tt
   server-outlasts old new status (started core begun only (refused is holds same_clock told status_is)) =
       let begins = (first-of _ old.place.desks begun only).2.2 in
       begun-outlasts settings old.records _ _ old.clock core begins new.records core [] (λ t told_so. stays settings core t told_so) holds
@@ -104,28 +104,28 @@ module _ {L P D C R : Type 0} (looks : Looks L P D) (rules : Rules Whole C R)
   IsOver records clock core = OtherBlobs looks (λ blobs blobs'. Begins settings records blobs blobs' clock core)
 
   opened-over : (records : Recorded) (clock : Option Moments) (core : Whole) (desk : D) (others olds begun : List D) → begun ≡ desk ∷ others → FirstOnly (IsOver records clock core) olds begun
-      → (first : D) × Begins settings records (looks.kit first).blobs (looks.kit desk).blobs clock core
+      → (first : D) × Begins settings records (looks.resources first).blobs (looks.resources desk).blobs clock core
   opened-over records clock core desk others olds begun is only =
       let (first, related) = first-at (IsOver records clock core) desk olds others (subst (λ (ds : List D). FirstOnly (IsOver records clock core) olds ds) is only) in (first, related.2)
 
   -- and so do the bytes that its desks stored, where their blobs tell them
-  pub server-keeps-bytes : (old new : View (Floor (List D))) (status : ℕ) (serves : ServesBy looks rules settings old new status) → looks.tells
+  pub server-keeps-bytes : (old new : View (RunResources (List D))) (status : ℕ) (serves : ServesBy looks rules settings old new status) → looks.tells
       → ServerKeepsBytes looks rules settings old new status serves
-  server-keeps-bytes old new status (not_started fault only same_broom same_clock told) tell = tt
+  server-keeps-bytes old new status (not_started fault only same_cleaner_resources same_clock told) tell = tt
   server-keeps-bytes old new status (started core begun only (refused is holds same_clock told status_is)) tell = λ desk others desks_are.
       let (first, begins) = opened-over old.records old.clock core desk others old.place.desks begun desks_are only in
-      keeps-bytes settings old.records (looks.kit first).blobs (looks.kit desk).blobs old.clock core begins new.records []
+      keeps-bytes settings old.records (looks.resources first).blobs (looks.resources desk).blobs old.clock core begins new.records []
       (server-outlasts old new status (started core begun only (refused is holds same_clock told status_is))) tt tt (λ n any. absurd any)
   server-keeps-bytes old new status (started core begun only (worked turns seat left calls failed opens works holds same_clock told)) tell = λ desk others desks_are.
       let (first, begins) = opened-over old.records old.clock core desk others old.place.desks begun desks_are only in
       let log = works.ended.log in
       let called = entries-called rules.sight log in
       let state_is : rules.sight.state (opening turns) ≡ core.state = state_of (opening turns) ∙ ap (λ (w : Whole). w.state) opens.0 in
-      let floor = record old.place { desks = begun } in
-      keeps-bytes settings old.records (looks.kit first).blobs (looks.kit desk).blobs old.clock core begins new.records (calls_made rules.sight log)
+      let run_resources = record old.place { desks = begun } in
+      keeps-bytes settings old.records (looks.resources first).blobs (looks.resources desk).blobs old.clock core begins new.records (calls_made rules.sight log)
       (server-outlasts old new status (started core begun only (worked turns seat left calls failed opens works holds same_clock told)))
-      (subst AllHandTold (sym called) (works-told looks settings rules turns seat floor new.place left calls failed works opens.2 opens.3 tell))
-      (subst HandOnce (sym called) (works-once looks settings rules turns seat floor new.place left calls failed works opens.2 opens.3))
+      (subst AllHandTold (sym called) (works-told looks settings rules turns seat run_resources new.place left calls failed works opens.2 opens.3 tell))
+      (subst HandOnce (sym called) (works-once looks settings rules turns seat run_resources new.place left calls failed works opens.2 opens.3))
       (λ n any.
       subst (λ (s : State). s.yard.next_draft ≤ n) state_is
-      (works-drawn looks settings rules turns seat floor new.place left calls failed works opens.2 opens.3 n (subst (AnyHands n) called any)))
+      (works-drawn looks settings rules turns seat run_resources new.place left calls failed works opens.2 opens.3 n (subst (AnyHands n) called any)))

@@ -18,7 +18,7 @@ use Rattle.turn_lock.specs.History.{entries_by}
 use Rattle.turn_lock.specs.Seats.{number}
 use Rattle.turn_seats.specs.Ending.{HoldsSeat}
 use Rattle.turn_seats.specs.Seated.{entry_of}
-use Rattle.run_desks.specs.Seen.{Kit, Looks}
+use Rattle.run_desks.specs.Seen.{DeskResources, Looks}
 use Rattle.seat_server.specs.Rules.{Rules}
 use Rattle.desk_work.specs.Visits.{Attends, Visit, entries_of}
 use Rattle.desk_work.specs.Working.{DeskDone}
@@ -33,7 +33,7 @@ module _ (settings : Settings) (tells : Type 0) (Shows : Showing) (history : Lis
   unfolding AreTurns
   all-show n [] entries old new ending are = tt
   all-show zero (turn ∷ turns) entries old new ending are = absurd are
-  all-show (suc left) (turn ∷ turns) entries old new ending (last, turned, inl (none, same, new_is, stops)) = (
+  all-show (suc left) (turn ∷ turns) entries old new ending (last, turned, inl (none, same, new_is, crashes)) = (
     (λ before more later e is parts. each before more later e old turn is parts turned),
     subst (λ (ts : List Seen). AllShowIn Shows history turn.new ts) (sym none) tt,
   )
@@ -58,7 +58,7 @@ module _ (settings : Settings) (tells : Type 0) (Shows : Showing) (history : Lis
 module _ {L P D : Type 0} (looks : Looks L P D) (settings : Settings) (Shows : Showing) (history : List Entry)
     (each : (before more later : List Entry) (e : Entry) (old : Outside) (turn : Seen) → turn.entries ≡ e ∷ more → history ≡ before ++ e ∷ later
     → RequestTurn settings looks.tells turn.last turn.entries old turn.new turn.stop → Shows before e old turn) where
-  visits-again : (Before : Showing) (before : Kit) (visits : List (Visit L)) → VisitsShow looks Before settings history before visits
+  visits-again : (Before : Showing) (before : DeskResources) (visits : List (Visit L)) → VisitsShow looks Before settings history before visits
       → VisitsShow looks Shows settings history before visits
   visits-again Before before [] show = tt
   visits-again Before before (v ∷ vs) show = (turned-shows settings looks.tells Shows history each {Before = Before} v.entries _ _ v.ending show.0, visits-again Before v.left vs show.1)
@@ -76,14 +76,14 @@ module _ {L P D : Type 0} (looks : Looks L P D) (settings : Settings) (Shows : S
       came = show.0.came;
       went = show.0.went;
       lie = show.0.lie;
-      show = visits-again Before (looks.kit d) show.0.visits show.0.show;
+      show = visits-again Before (looks.resources d) show.0.visits show.0.show;
     },
     desks-again Before ds bs show.1,
   )
 
   module _ {C R T : Type 0} (rules : Rules T C R) (apart : AreNamedApart settings.hosted) (start : State) (sound : IsSound settings start) (turns : Turns T C R) (first : Seat C R T)
       (log : List (Call C R T)) (history_is : history ≡ map (entry_of rules.sight) log) where
-    visits-show : (before after : Kit) (visits : List (Visit L)) → Attends looks settings before visits after
+    visits-show : (before after : DeskResources) (visits : List (Visit L)) → Attends looks settings before visits after
         → VisitsShow looks Shows settings history before visits
     visits-show before after [] attends = tt
     visits-show before after (v ∷ vs) attends = (served-shows settings looks.tells Shows history each apart start sound v.entries _ _ v.ending attends.0, visits-show v.left after vs attends.1)
@@ -101,7 +101,7 @@ module _ {L P D : Type 0} (looks : Looks L P D) (settings : Settings) (Shows : S
           went = did.went;
           lie = subst (λ (h : List Entry). LiesIn (entries_of did.visits) h) (sym history_is)
               (subst (λ (es : List Entry). LiesIn es (map (entry_of rules.sight) log)) (sym entries) (lie-by (entry_of rules.sight) (number out.0) log));
-          show = visits-show (looks.kit desk) (looks.kit out.1.0) did.visits did.attends;
+          show = visits-show (looks.resources desk) (looks.resources out.1.0) did.visits did.attends;
         }
 
     pub desks-show : (desks : List D) (outs : List (Seat C R T × (D × Bool))) → AllZip (DeskDone looks rules settings turns first) desks outs

@@ -9,26 +9,26 @@ use Rattle.repo_model.specs.Settings.{Settings}
 use Rattle.repo_model.specs.State.{State}
 use Rattle.repo_model.specs.Tables.{Tables}
 use Rattle.repo_laws.specs.Closed.{all_given_out}
-use Rattle.row_tables.specs.Stops.{Unsettled}
+use Rattle.row_tables.specs.Crashes.{Unsettled}
 use Rattle.blob_audit.specs.Damages.{AreDamaged, print_of}
 use Rattle.blob_audit.specs.Order.{all_rows}
-use Rattle.stop_laws.specs.Found.{IsWholeWithout}
-use Rattle.stop_laws.specs.Handed.{acknowledged_by, left_without}
-use Rattle.stop_laws.specs.Runs.{IsAnsweredBy, IsAnsweredOver}
-use Rattle.stop_laws.specs.Stops.{MayNotGo}
+use Rattle.crash_laws.specs.Found.{IsWholeWithout}
+use Rattle.crash_laws.specs.Handed.{acknowledged_by, left_without}
+use Rattle.crash_laws.specs.Runs.{IsAnsweredBy, IsAnsweredOver}
+use Rattle.crash_laws.specs.Crashes.{MayNotGo}
 use Rattle.repo_core.specs.Whole.{Whole}
 use Rattle.store_check.specs.Checking.{Recorded}
 use Rattle.repo_run.specs.Surroundings.{View}
 use Rattle.run_lines.specs.Printing.{Output}
-use Rattle.run_desks.specs.Seen.{Floor, Looks}
+use Rattle.run_desks.specs.Seen.{RunResources, Looks}
 use Rattle.seat_server.specs.Rules.{Rules}
 use Rattle.run_serve.specs.Serving.{ServesBy, ServesWith, not_started, refused, started, worked}
-use Rattle.served_laws.specs.Stopped.{FindsSince, Made, calls_made, entries_made}
+use Rattle.served_laws.specs.Crashed.{FindsSince, Made, calls_made, entries_made}
 
--- What was made so, over these tables and a store that told this shelf then. At each moment behind a front of it, between calls and inside each,
--- a start finds no file damaged in a store that keeps the blobs of the shelf and those that were handed over in the front and in `later`, be it
--- that it has lost what the Collects of the front gave out. Of a moment inside a call `later` is this call alone: its blob was stored before it,
--- so nothing is asked that was stored behind the moment. And each file that a `Put` created is answered with the bytes that its blob told, of
+-- What was made so, over these tables and a store that told this shelf then. At each moment after a front of it, between calls and inside each,
+-- a start finds no file damaged in a store that keeps the blobs of the shelf and those that were handed over in the front and in `later`, even
+-- if it has lost what the Collects of the front gave out. Of a moment inside a call `later` is this call alone: its blob was stored before it,
+-- so nothing is asked that was stored after the moment. And each file that a `Put` created is answered with the bytes that its blob told, of
 -- which its fingerprint is, as long as no call takes it away; here too `later` ends with the call of the moment.
 pub record BytesOutlast (settings : Settings) (start : State) (t : Tables) (old : Unsettled) (shelf : Shelf) (made : List Made) : Type 0 where
   pub undamaged : (front later rest : List Made) → made ≡ front ++ (later ++ rest)
@@ -57,14 +57,14 @@ KeepsBytes settings records shelf core made =
     → (whole : Tables) × (core.tables ≡ Some whole) × BytesOutlast settings core.state whole core.unsettled shelf made
 
 module _ {L P D C R : Type 0} (looks : Looks L P D) (rules : Rules Whole C R) (settings : Settings) where
-  -- what a server made of the repository that it opened; where memory was wanting to begin a history of it, nothing
-  abbrev pub made_by : (core : Whole) (old : Floor (List D)) (out : Output) (new : View (Floor (List D))) (status : ℕ) → ServesWith looks rules settings core old out new status → List Made
+  -- what a server made of the repository that it opened; when memory ran out to begin a history of it, nothing
+  abbrev pub made_by : (core : Whole) (old : RunResources (List D)) (out : Output) (new : View (RunResources (List D))) (status : ℕ) → ServesWith looks rules settings core old out new status → List Made
   made_by core old out new status (refused same holds clock told is) = []
   made_by core old out new status (worked turns seat left calls failed opens works holds clock told) = calls_made rules.sight works.ended.log
 
   -- of a server, whose repository was opened over the first desk's store, as the start left this; nothing where it was not
-  abbrev pub ServerKeepsBytes : (old new : View (Floor (List D))) (status : ℕ) → ServesBy looks rules settings old new status → Type 0
-  ServerKeepsBytes old new status (not_started fault only broom clock told) = Unit {0}
+  abbrev pub ServerKeepsBytes : (old new : View (RunResources (List D))) (status : ℕ) → ServesBy looks rules settings old new status → Type 0
+  ServerKeepsBytes old new status (not_started fault only cleaner_resources clock told) = Unit {0}
   ServerKeepsBytes old new status (started core begun only works) =
       (desk : D) (others : List D) → begun ≡ desk ∷ others
-      → KeepsBytes settings old.records (looks.kit desk).blobs.shelf core (made_by core (record old.place { desks = begun }) old.out new status works)
+      → KeepsBytes settings old.records (looks.resources desk).blobs.shelf core (made_by core (record old.place { desks = begun }) old.out new status works)

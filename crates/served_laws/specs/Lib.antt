@@ -1,6 +1,6 @@
 pub mod Shown
 pub mod Runs
 pub mod Restarted
-pub mod Stopped
+pub mod Crashed
 pub mod Worked
 pub mod Kept

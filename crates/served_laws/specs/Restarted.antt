@@ -14,12 +14,12 @@ use Rattle.closed_laws.specs.Named.{IsSideOf, ShowsNamed, ShowsSide, WasNamed}
 use Rattle.closed_laws.specs.Streams.{Seen, ShowsWhatWasNamed}
 use Rattle.repo_run.specs.Begun.{Begins}
 use Rattle.repo_run.specs.Surroundings.{FirstOnly, View}
-use Rattle.run_desks.specs.Seen.{Floor, Looks}
+use Rattle.run_desks.specs.Seen.{RunResources, Looks}
 use Rattle.run_serve.specs.Serving.{OtherBlobs}
 use Rattle.served_laws.specs.Runs.{IsClosed}
 use Rattle.served_laws.specs.Shown.{DesksShow}
 
--- this entry of a turn, behind those of a later run, looks at a file that was named in time in an earlier history, or at a side file of
+-- this entry of a turn, after those of a later run, looks at a file that was named in time in an earlier history, or at a side file of
 -- it: then the turn shows a file with the same number, length and digests, or with its further digests if it had none; or what the side
 -- file of that one says
 abbrev pub ShowsWhatWasNamedIn : Settings → State → List Entry → State → List Entry → Entry → Outside → Seen → Type 0
@@ -33,7 +33,7 @@ ShowsWhatWasNamedIn settings first earlier start before e old turn =
 -- Of two servers under the same settings, the later one over the tables that the earlier one left, one was handed no connection; or
 -- each has its one history, and where no entry of the later one is earlier than the end of the other, each connection of each of its
 -- desks shows every file that a document of the earlier one named, in time.
-pub data RestartShows {L P D : Type 0} (looks : Looks L P D) (settings : Settings) (old new later_old later_new : View (Floor (List D))) : Type 0 where
+pub data RestartShows {L P D : Type 0} (looks : Looks L P D) (settings : Settings) (old new later_old later_new : View (RunResources (List D))) : Type 0 where
   idle_earlier : map looks.port new.place.desks ≡ map looks.port old.place.desks → RestartShows looks settings old new later_old later_new
   idle_later : map looks.port later_new.place.desks ≡ map looks.port later_old.place.desks → RestartShows looks settings old new later_old later_new
   both : (core later_core : Whole) (begun later_begun : List D) (history later_history : List Entry)

@@ -13,11 +13,11 @@ use Rattle.store_check.specs.Checking.{Recorded}
 use Rattle.repo_run.specs.Begun.{Begins}
 use Rattle.repo_run.specs.Surroundings.{FirstOnly, View}
 use Rattle.closed_laws.specs.Streams.{ShowsWhatWasNamed}
-use Rattle.run_desks.specs.Seen.{Floor, Looks}
+use Rattle.run_desks.specs.Seen.{RunResources, Looks}
 use Rattle.run_serve.specs.Serving.{OtherBlobs}
 use Rattle.served_laws.specs.Shown.{DesksShow}
 
--- A legal history from a sound state: every file that a document of it names is answered behind it, up to the grace after that
+-- A legal history from a sound state: every file that a document of it names is answered after it, up to the grace after that
 -- moment; and what a Collect gave out stays gone.
 pub record IsClosed (settings : Settings) (start : State) (history : List Entry) : Type 0 where
   pub apart : AreNamedApart settings.hosted
@@ -48,7 +48,7 @@ CompletesTold (Some old) new = (whole : Tables) × (new ≡ Some whole) × Compl
 -- Of a server under these settings either no connection was handed out and the tables are the same, but for further digests; or its repository was opened over
 -- the records and the first desk's blobs, and has one history, in which each connection of each desk shows every file that a
 -- document named before, and in time.
-pub data ServerShows {L P D : Type 0} (looks : Looks L P D) (settings : Settings) (old new : View (Floor (List D))) : Type 0 where
+pub data ServerShows {L P D : Type 0} (looks : Looks L P D) (settings : Settings) (old new : View (RunResources (List D))) : Type 0 where
   idle : map looks.port new.place.desks ≡ map looks.port old.place.desks → CompletesTold old.records.tables new.records.tables → ServerShows looks settings old new
   served : (core : Whole) (begun : List D) (history : List Entry)
       → FirstOnly (OtherBlobs looks (λ blobs blobs'. Begins settings old.records blobs blobs' old.clock core)) old.place.desks begun

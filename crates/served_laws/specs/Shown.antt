@@ -8,10 +8,10 @@ use Rattle.repo_course.specs.Asking.{LiesIn}
 use Rattle.repo_course.specs.Serving.{Outside}
 use Rattle.repo_course.specs.declared.outcomes.End.{End}
 use Rattle.closed_laws.specs.Streams.{AreTurns, Seen}
-use Rattle.run_desks.specs.Seen.{Kit, Looks, around}
+use Rattle.run_desks.specs.Seen.{DeskResources, Looks, around}
 use Rattle.desk_work.specs.Visits.{Attends, Visit, entries_of}
 
--- what a turn shows, that was seen from this on and whose first entry stands behind those of a history
+-- what a turn shows, that was seen from this on and whose first entry stands after those of a history
 abbrev pub Showing : Type 1
 Showing = List Entry → Entry → Outside → Seen → Type 0
 
@@ -30,7 +30,7 @@ pub record ConnectionShows (Shows : Showing) (settings : Settings) (tells : Type
 
 module _ {L P D : Type 0} (looks : Looks L P D) (Shows : Showing) (settings : Settings) (history : List Entry) where
   -- each of these connections in turn does
-  abbrev pub VisitsShow : Kit → List (Visit L) → Type 0
+  abbrev pub VisitsShow : DeskResources → List (Visit L) → Type 0
   VisitsShow before [] = Unit {0}
   VisitsShow before (v ∷ vs) =
       ConnectionShows Shows settings looks.tells history v.entries (around looks [] v.came before) (around looks v.held v.went v.left) v.ending
@@ -39,11 +39,11 @@ module _ {L P D : Type 0} (looks : Looks L P D) (Shows : Showing) (settings : Se
   -- A desk was handed these connections, served each and gave each back; their entries stand in the history in their order
   pub record DeskShows (desk back : D) : Type 0 where
     pub visits : List (Visit L)
-    pub attends : Attends looks settings (looks.kit desk) visits (looks.kit back)
+    pub attends : Attends looks settings (looks.resources desk) visits (looks.resources back)
     pub came : looks.left (looks.port desk) ≡ in_front (map (λ (v : Visit L). v.came) visits) (looks.left (looks.port back))
     pub went : looks.given_back (looks.port back) ≡ behind (looks.given_back (looks.port desk)) (map (λ (v : Visit L). v.went) visits)
     pub lie : LiesIn (entries_of visits) history
-    pub show : VisitsShow (looks.kit desk) visits
+    pub show : VisitsShow (looks.resources desk) visits
 
   -- so did all desks
   abbrev pub DesksShow : List D → List D → Type 0

@@ -11,7 +11,7 @@ ghost use Rattle.repo_laws.specs.Worked.{releases, shop};
 ghost use Rattle.repo_course.specs.Serving.{AllTell, Outside};
 ghost use Rattle.repo_course.specs.declared.outcomes.End.{End};
 ghost use Rattle.run_desks.specs.declared.objects.Desk.{Desk};
-ghost use Rattle.run_desks.specs.Seen.{Floor, looks};
+ghost use Rattle.run_desks.specs.Seen.{RunResources, looks};
 ghost use Rattle.repo_run.specs.Replay.{IsReplayed};
 ghost use Rattle.repo_run.specs.Surroundings.{Served, View, outside_of, outside_with, with_store};
 ghost use Rattle.closed_laws.specs.Named.{WasNamed};
@@ -37,7 +37,7 @@ use turn_seats::Repository;
 /// file's bytes and both checksums, whole, or an alternative with its cause; so for its side files. What the history recorded is
 /// what the records tell in the end, where they tell.
 pub fn servers_serve_named_files<P: Port, B: Blobs, R: Remote, K: Records, C: Clock>()
-    ensures { (settings : Settings) (old new : View (Floor (List (Desk P B R P.Link B.Held B.Pen)))) (status : ℕ) →
+    ensures { (settings : Settings) (old new : View (RunResources (List (Desk P B R P.Link B.Held B.Pen)))) (status : ℕ) →
         ServesBy (looks ⟦<P as Port>⟧ ⟦<P::Link as Tells>⟧ ⟦<B as Blobs>⟧ ⟦<B::Held as Held>⟧ ⟦<R as Remote>⟧)
         (rules ⟦<Core<K, C, B::Held> as Thing>⟧ ⟦<Core<K, C, B::Held> as Repository>⟧.sight) settings old new status →
         ServerShows (looks ⟦<P as Port>⟧ ⟦<P::Link as Tells>⟧ ⟦<B as Blobs>⟧ ⟦<B::Held as Held>⟧ ⟦<R as Remote>⟧) settings old new }
@@ -55,7 +55,7 @@ pub fn replays_serve_named_files<H: Held>()
 /// Across restarts: what a document named in one run under these settings, each turn of each desk's connection of a later run shows
 /// that looks there in time; so does each turn of a connection that is served alone. The tables that the earlier run left are those
 /// over which the next one begins, once its start has completed them, each next run begins no earlier than the one before it ended, and what was being committed at a
-/// stop counts as an entry of its run, or as none.
+/// crash counts as an entry of its run, or as none.
 pub fn later_runs_serve_named_files<P: Port, B: Blobs, R: Remote>()
     ensures desks { (settings : Settings) (tables : Tables) (earlier : Run) (between : List Run) (later : Run) (desks back : List (Desk P B R P.Link B.Held B.Pen)) →
         AreNamedApart settings.hosted → IsSound settings earlier.start → InOrder tables → Holds tables earlier.start → Legal settings earlier.start earlier.entries →
@@ -73,7 +73,7 @@ pub fn later_runs_serve_named_files<P: Port, B: Blobs, R: Remote>()
 /// tables: each desk of the later one shows what a document of the earlier one named, in time, where no entry of it is earlier than
 /// the end of the other.
 pub fn restarted_servers_serve_named_files<P: Port, B: Blobs, R: Remote, K: Records, C: Clock>()
-    ensures { (settings : Settings) (tables : Tables) (old new later_old later_new : View (Floor (List (Desk P B R P.Link B.Held B.Pen)))) (status later_status : ℕ) →
+    ensures { (settings : Settings) (tables : Tables) (old new later_old later_new : View (RunResources (List (Desk P B R P.Link B.Held B.Pen)))) (status later_status : ℕ) →
         old.records.tables ≡ Some tables → later_old.records.tables ≡ new.records.tables →
         ServesBy (looks ⟦<P as Port>⟧ ⟦<P::Link as Tells>⟧ ⟦<B as Blobs>⟧ ⟦<B::Held as Held>⟧ ⟦<R as Remote>⟧)
         (rules ⟦<Core<K, C, B::Held> as Thing>⟧ ⟦<Core<K, C, B::Held> as Repository>⟧.sight) settings old new status →

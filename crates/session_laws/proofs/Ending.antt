@@ -28,7 +28,7 @@ use Rattle.session_laws.proofs.Lasting.{is-over, entry-result}
 abbrev Going : ℕ → List Session → Type 0
 Going n sessions = (one : Session) × (find (is_session n) sessions ≡ Some one) × (one.ended ≡ None)
 
--- an effect behind which it goes on
+-- an effect after which it goes on
 abbrev Passes : ℕ → Effect → Type 0
 Passes n e = (sessions : List Session) → Going n sessions → Going n (sessions_after e sessions)
 
@@ -92,9 +92,9 @@ gets-result n r (x ∷ sessions) (one, is, going) =
       | false ↦ λ there found. rw there (gets-result n r sessions (one, found, going))
     ] refl is
 
-ends-behind : (n : ℕ) (one : Session) (r : SessionResult) (es : List Effect) (s : State) → one.number ≡ n → AllByRecursion (Passes n) es → Going n s.sessions
+ends-after : (n : ℕ) (one : Session) (r : SessionResult) (es : List Effect) (s : State) → one.number ≡ n → AllByRecursion (Passes n) es → Going n s.sessions
     → result_of (with_effects s (es ++ ends one.number r ∷ [])) n ≡ Some r
-ends-behind n one r es s numbered all going =
+ends-after n one r es s numbered all going =
     subst (λ (k : ℕ). result_of (with_effects s (es ++ ends k r ∷ [])) n ≡ Some r) (sym numbered)
     (ap (λ (t : State). result_of t n) (with_effects-append es (ends n r ∷ []) s) ∙ gets-result n r (with_effects s es).sessions (effects-pass n es s all going))
 
@@ -116,7 +116,7 @@ module _ (settings : Settings) (s : State) (moment faults : ℕ) where
       goes going None None is =
           let same : Done (length one.staged) ≡ r = cc in
           subst (λ (x : SessionResult). result_of (left (deliver_all one moment (rows_of one.repo s) ++ ends one.number (Done (length one.staged)) ∷ [])) n ≡ Some x) same
-          (ends-behind n one (Done (length one.staged)) (deliver_all one moment (rows_of one.repo s)) (ticked s moment faults) (number-found n s one known)
+          (ends-after n one (Done (length one.staged)) (deliver_all one moment (rows_of one.repo s)) (ticked s moment faults) (number-found n s one known)
           (delivers-pass n one moment (rows_of one.repo s) one.staged) (one, known, going))
 
       over : (result : Option SessionResult) → one.ended ≡ result → Gives n r (commit_of one moment (rows_of one.repo s) result)
@@ -133,7 +133,7 @@ module _ (settings : Settings) (s : State) (moment faults : ℕ) where
       over None going is =
           let same : Aborted ≡ r = cc in
           subst (λ (x : SessionResult). result_of (left (discard_all one ++ ends one.number Aborted ∷ [])) n ≡ Some x) same
-          (ends-behind n one Aborted (discard_all one) (ticked s moment faults) (number-found n s one known) (discards-pass n one one.staged) (one, known, going))
+          (ends-after n one Aborted (discard_all one) (ticked s moment faults) (number-found n s one known) (discards-pass n one one.staged) (one, known, going))
 
   turn-gives : (n : ℕ) (r : SessionResult) (c : Command) → ends_session n c ≡ true → Gives n r (turn settings s moment c)
   turn-gives n r (commit m) same = subst (λ (k : ℕ). Gives k r (turn settings s moment (commit m))) (eqb-true m n same) (commit-gives m r)

@@ -10,6 +10,6 @@ ends_session n (commit m) = m == n
 ends_session n (abort m) = m == n
 ends_session n command = false
 
--- the result is answered, or memory is wanting
+-- the result is answered, or memory runs out
 abbrev pub IsResultOrMemory : SessionResult → Reply → Type 0
 IsResultOrMemory result reply = (reply ≡ ended result) ⊎ (reply ≡ no_memory)

@@ -14,7 +14,7 @@ ghost use Rattle.repo_model.specs.History.{Entry, Fits, Legal, after, end};
 ghost use Rattle.repo_laws.specs.Sound.{AreNamedApart, IsSound};
 ghost use Rattle.session_laws.specs.Limits.{KeepsLimits, is_full, IsAtLimit};
 
-/// At most 64 sessions are open, and each has at most 1,000 staged files: in the opening state, behind a start over any tables,
+/// At most 64 sessions are open, and each has at most 1,000 staged files: in the opening state, after a start over any tables,
 /// after each effect that may be done, and after an entry and a legal history from a sound state that keeps these limits.
 pub fn sessions_keep_their_limits()
     ensures opening { (settings : Settings) (clock : Option Moments) → KeepsLimits (opening settings clock) }
@@ -29,7 +29,7 @@ pub fn sessions_keep_their_limits()
 
 /// Where the limits are kept, `sessions_full` is the reply of a turn exactly to an Open while just 64 sessions are open, and
 /// `session_full` exactly to a MayPut of a file that the repository takes, or a Stage of a draft, for an open session that has
-/// just 1,000 files, none of them at the path. So is it of an entry, but where memory is wanting.
+/// just 1,000 files, none of them at the path. So is it of an entry, but when memory runs out.
 pub fn full_is_at_the_limit()
     ensures turn { (settings : Settings) (s : State) (now : ℕ) (c : Command) (r : Reply) → KeepsLimits s → IsTrue (is_full r)
         → ((turn settings s now c).reply ≡ r) ↔ IsAtLimit s c r }

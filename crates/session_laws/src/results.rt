@@ -14,8 +14,8 @@ ghost use Rattle.repo_laws.specs.Holds.{InOrder, Holds, with_items, told, result
 ghost use Rattle.repo_laws.specs.InRange.{InRange, Completes};
 ghost use Rattle.session_laws.specs.Ended.{ends_session, IsResultOrMemory};
 
-/// A session that has ended keeps its result behind each effect, each entry and all entries that follow, in any state, and over
-/// a start behind these from the tables that tell the state, once it has completed them, whatever settings it has.
+/// A session that has ended keeps its result after each effect, each entry and all entries that follow, in any state, and over
+/// a start after these from the tables that tell the state, once it has completed them, whatever settings it has.
 pub fn results_are_kept()
     ensures effect { (s : State) (e : Effect) (n : ℕ) (r : SessionResult) → result_of s n ≡ Some r → result_of (with_effect s e) n ≡ Some r }
     ensures entry { (settings : Settings) (old : State) (e : Entry) (n : ℕ) (r : SessionResult) → result_of old n ≡ Some r
@@ -29,7 +29,7 @@ pub fn results_are_kept()
 {}
 
 /// Once a commit or an abort was answered with the session's result, or the session has a result from before, each later commit
-/// and abort of it is answered with that result, unless memory is wanting, and changes nothing but the moment.
+/// and abort of it is answered with that result, unless memory runs out, and changes nothing but the moment.
 pub fn results_are_answered_again()
     ensures told { (settings : Settings) (old : State) (e : Entry) (n : ℕ) (r : SessionResult) → Fits settings old e → IsTrue (ends_session n e.command)
         → e.reply ≡ ended r → result_of (after settings old e) n ≡ Some r }

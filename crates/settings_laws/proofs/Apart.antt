@@ -33,7 +33,7 @@ still-among seen other id is = list_any-append (λ o. bytes_eq o id) seen (other
 now-among : (seen : List (List ℕ)) (id : List ℕ) → is_among (seen ++ id ∷ []) id ≡ true
 now-among seen id = list_any-append (λ o. bytes_eq o id) seen (id ∷ []) ∙ or-right (is_among seen id) (is_among (id ∷ []) id) (or-left (bytes_eq id id) false (is_itself id))
 
--- none stands twice behind some that were seen
+-- none stands twice after some that were seen
 behind : (seen front rest : List (List ℕ)) → first_twice seen (front ++ rest) ≡ None → (earlier : List (List ℕ)) × (first_twice earlier rest ≡ None)
 behind seen [] rest none = (seen, none)
 behind seen (id ∷ front) rest none = behind (seen ++ id ∷ []) front rest (goes-on (is_among seen id) id (first_twice (seen ++ id ∷ []) (front ++ rest)) none)
@@ -54,7 +54,7 @@ module _ {T : Type 0} (id_of : T → List ℕ) (rest : List (List ℕ)) where
         by true same first more = absurd (false≢true (sym (subst (λ i. is_among seen i ≡ false) (same_path (id_of rule) id same) first) ∙ among))
         by false same first more = more
 
-  -- an id is none of those behind it, and none of these stands twice
+  -- an id is none of those after it, and none of these stands twice
   first-of : (seen : List (List ℕ)) (rule : T) (rules : List T) → first_twice seen (ids (rule ∷ rules)) ≡ None
       → (find (λ other. bytes_eq (id_of other) (id_of rule)) rules ≡ None) × (first_twice (seen ++ id_of rule ∷ []) (ids rules) ≡ None)
   first-of seen rule rules none =

@@ -17,19 +17,19 @@ module _ {K : Type 0} (p : K → Bool) (xs : List K) (d : K) where
       ∙ count_by_more_no p xs k d (omega arith) (none k d (omega arith) (omega arith))
       ∙ none_before k r none long (omega arith)
 
-  all_behind : (k r : ℕ) → AllWithin (λ y. p y ≡ true) xs r (length xs) → r + k ≤ length xs → count_by p (take r xs) ≡ 0 → count_by p (take (r + k) xs) ≡ k
-  all_behind zero r all long none = ap (λ n. count_by p (take n xs)) (let e : r + zero ≡ r = omega arith in e) ∙ none
-  all_behind (suc k) r all long none =
+  all_after : (k r : ℕ) → AllWithin (λ y. p y ≡ true) xs r (length xs) → r + k ≤ length xs → count_by p (take r xs) ≡ 0 → count_by p (take (r + k) xs) ≡ k
+  all_after zero r all long none = ap (λ n. count_by p (take n xs)) (let e : r + zero ≡ r = omega arith in e) ∙ none
+  all_after (suc k) r all long none =
       ap (λ n. count_by p (take n xs)) (let e : r + suc k ≡ r + k + 1 = omega arith in e)
       ∙ count_by_more_yes p xs (r + k) d (omega arith) (all (r + k) d (omega arith) (omega arith))
-      ∙ ap (λ n. n + 1) (all_behind k r all (omega arith) none)
+      ∙ ap (λ n. n + 1) (all_after k r all (omega arith) none)
       ∙ add-one k
 
-  -- where a list is parted, the test counts what stands behind the place
+  -- where a list is parted, the test counts what stands after the place
   pub count_by-parted : (r : ℕ) → r ≤ length xs → AllWithin (λ y. p y ≡ false) xs 0 r → AllWithin (λ y. p y ≡ true) xs r (length xs) → length xs - r ≡ count_by p xs
   count_by-parted r long none all =
       let whole : r + (length xs - r) ≡ length xs = omega arith in
-      sym (all_behind (length xs - r) r all (omega arith) (none_before r r none long (omega arith)))
+      sym (all_after (length xs - r) r all (omega arith) (none_before r r none long (omega arith)))
       ∙ ap (λ n. count_by p (take n xs)) whole
       ∙ ap (count_by p) (take_all (length xs) xs (omega arith))
 

@@ -25,7 +25,7 @@ static PASSING: [Act; 4] = [
 ];
 
 // A connection that was given up (103), a call that a signal interrupted (4) and too many open files (24) are no errors of the
-// port's, and behind the last it waits a moment. The last call finds no connection more.
+// port's, and after the last it waits a moment. The last call finds no connection more.
 #[test]
 fn passing_errors_are_not_told(rt: HostRuntime) {
     assert!(rt; accepts(&rt, &rt, &[103, 4, 24], 5, &PASSING));

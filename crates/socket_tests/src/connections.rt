@@ -48,7 +48,7 @@ fn a_run_ends_where_another_waits(rt: HostRuntime) {
     assert!(rt; goes(&rt, &rt, &RUNS));
 }
 
-// A client with half a head and a silent one hold no desk: another one is served meanwhile, and they are closed behind the time
+// A client with half a head and a silent one hold no desk: another one is served meanwhile, and they are closed after the time
 // of a head.
 static SLOW: [Act; 9] = [
     Act::Client(b"GET / HTTP/1.1\r\nHost: "),
@@ -82,7 +82,7 @@ fn a_request_may_wait_for_a_desk(rt: HostRuntime) {
 
 const BODY: [Step; 3] = [Step::Gives(PUT), GOES_ON, Step::Gives(b"abc")];
 
-// A body is waited for behind an interim answer.
+// A body is waited for after an interim answer.
 static LATE_BODY: [Act; 2] = [Act::Client(PUT), Act::Meanwhile(1_200, b"abc", &BODY)];
 
 #[test]

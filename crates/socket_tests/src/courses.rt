@@ -31,7 +31,7 @@ pub enum Step {
     Gives(&'static [u8]),
     /// The same, and the system was told last that it may wait so many milliseconds.
     Timed(&'static [u8], u128),
-    /// A few reads give these bytes, and none of those behind them.
+    /// A few reads give these bytes, and none of those after them.
     Parts(&'static [u8]),
     /// A read gives the end within 300 milliseconds.
     Ends,
@@ -49,7 +49,7 @@ pub enum Step {
     Pause(u64),
     /// The network by the script does so from now on.
     Does(Does),
-    /// It has given at least so many bytes behind the pieces, and fewer than so many.
+    /// It has given at least so many bytes after the pieces, and fewer than so many.
     Gave(usize, usize),
 }
 
@@ -62,7 +62,7 @@ pub enum Act {
     Crowd(&'static str),
     /// The next connection goes through these calls.
     Runs(&'static [Step]),
-    /// So it does while the last client, who leaves then, sends these bytes behind so many milliseconds.
+    /// So it does while the last client, who leaves then, sends these bytes after so many milliseconds.
     Meanwhile(u64, &'static [u8], &'static [Step]),
     /// The listener gives no connection.
     Fails,
@@ -280,7 +280,7 @@ fn are_taken<S: Stream>(
     true
 }
 
-// Whether the next connection goes through these calls. It goes back behind them.
+// Whether the next connection goes through these calls. It goes back after them.
 fn runs<P: Port>(scene: &Scene, port: &mut P, peers: &mut Vec<TcpStream>, steps: &[Step]) -> bool {
     match port.next() {
         Ok(Some(mut link)) => {

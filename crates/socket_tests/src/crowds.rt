@@ -5,7 +5,7 @@ use crate::stand_in::{Does, Script};
 use std::sync::Wait;
 use std::thread::Threads;
 
-// Whether that comes of one that has had an answer and of a crowd behind it, where the listener fails so.
+// Whether that comes of one that has had an answer and of a crowd after it, where the listener fails so.
 fn is_left<W: Threads + Wait>(
     rt: &HostRuntime,
     waits: &W,

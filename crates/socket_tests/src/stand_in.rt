@@ -8,7 +8,7 @@ use std::net::{Net, OpenListener, OpenStream, Shutdown, SocketAddr, TcpListener,
 use std::os::fd::{AsRawFd, RawFd};
 use std::time::{Clock, Duration};
 
-/// What the stand-in does from now on: whether reads give 7,000 bytes each behind the pieces, where else nothing comes in time;
+/// What the stand-in does from now on: whether reads give 7,000 bytes each after the pieces, where else nothing comes in time;
 /// whether writes are taken; and how many milliseconds pass at each look at the clock.
 #[derive(Clone, Copy)]
 pub struct Does(pub bool, pub bool, pub u64);
@@ -20,7 +20,7 @@ pub struct Done {
     pub asked: usize,
     pub looks: u64,
     pub lines: usize,
-    /// How many pieces were given, how many bytes of the one that is next, and how many behind them.
+    /// How many pieces were given, how many bytes of the one that is next, and how many after them.
     pub given: usize,
     pub begun: usize,
     pub more: usize,
@@ -202,7 +202,7 @@ impl OpenStream for Scripted<'_> {
     }
 }
 
-// What a read gives behind the pieces.
+// What a read gives after the pieces.
 fn more(script: &Script, buffer: &mut [u8]) -> io::Result<usize>
     ensures { IfOk result (λ n. n ≤ length buffer.new) }
 {

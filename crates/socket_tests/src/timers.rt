@@ -24,7 +24,7 @@ fn sleeps_while_a_port_runs(rt: HostRuntime) -> Result<(), Fail> {
     Ok(())
 }
 
-// The system's clock stands behind the day on which this was written.
+// The system's clock stands after the day on which this was written.
 #[test]
 fn the_system_has_a_clock(rt: HostRuntime) -> Result<(), Fail> {
     let mut clock = SystemClock::new(rt.clone()?);

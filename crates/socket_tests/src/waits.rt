@@ -61,7 +61,7 @@ fn a_body_that_does_not_come_is_a_fault(rt: HostRuntime) {
 
 const ONE: [Step; 3] = [GETS, TELLS, ENDS];
 
-// The front of a head behind an answer is not given, and stays for the next run.
+// The front of a head after an answer is not given, and stays for the next run.
 #[test]
 fn a_part_of_a_head_is_left(rt: HostRuntime) {
     assert!(rt; goes_so(&rt, &rt, &[GET, b"GET / HT"], &ran(&ONE)));
@@ -101,7 +101,7 @@ fn a_file_may_look_like_an_answer(rt: HostRuntime) {
 
 static THREE: [Step; 6] = [GETS, TELLS, GETS, TELLS, GETS, TELLS];
 
-// What the system was told of a connection behind a number of requests.
+// What the system was told of a connection after a number of requests.
 fn is_told_once<W: Threads + Wait>(rt: &HostRuntime, waits: &W) -> bool {
     let script = Script::of(&[], &[GET, GET, GET]);
     let ran = goes_by(rt, waits, &script, &ran(&THREE));
@@ -134,7 +134,7 @@ static REFUSED: [Step; 3] = [
     Step::Writes(ANSWER, false),
 ];
 
-// A byte in each 6 seconds is too little behind the first 10, and a byte in each 4 seconds is not yet. A write that moves nothing
+// A byte in each 6 seconds is too little after the first 10, and a byte in each 4 seconds is not yet. A write that moves nothing
 // fails.
 #[test]
 fn a_slow_peer_is_given_up(rt: HostRuntime) {
@@ -155,7 +155,7 @@ fn an_unanswered_one_is_closed(rt: HostRuntime) {
     assert!(rt; goes_so(&rt, &rt, &[GET], &UNANSWERED));
 }
 
-// A client that sends on and on behind a refusal. Behind it another one is listened to.
+// A client that sends on and on after a refusal. After it another one is listened to.
 static DROPPED: [Act; 4] = [
     Act::Client(b"x"),
     Act::Runs(&[PUTS, TELLS, Step::Does(Does(true, true, 0))]),

@@ -6,7 +6,7 @@ use Rattle.repo_model.specs.Settings.{Settings}
 use Rattle.repo_model.specs.Tables.{Tables}
 use Rattle.row_tables.specs.Recorded.{IsBuiltUp}
 use Rattle.row_tables.specs.Records.{Expected}
-use Rattle.row_tables.specs.Stops.{Unsettled}
+use Rattle.row_tables.specs.Crashes.{Unsettled}
 use Rattle.row_tables.specs.declared.faults.LoadFault.TheVariants as load
 use Rattle.blob_audit.specs.Damages.{AreDamaged}
 use Rattle.blob_audit.specs.Order.{all_rows}
@@ -18,7 +18,7 @@ use Rattle.run_lines.specs.Printing.{Output, Prints, PrintsPart, PrintsWhole}
 use Rattle.run_lines.specs.Reading.{File, Reads}
 use Rattle.store_check.specs.Lines.{not_ours_line, report_text, row_line, stopped_line, store_line}
 
--- what records tell of themselves: what is recorded, what a load gives, their count of faults, and what a stop may leave of them
+-- what records tell of themselves: what is recorded, what a load gives, their count of faults, and what a crash may leave of them
 -- beside the tables
 pub record Recorded : Type 0 where
   pub tables : Option Tables
@@ -55,7 +55,7 @@ RefusesDamaged damaged old new status =
     (Prints (stopped_line damaged) old new × (status ≡ 5)) ⊎ (Prints memory_line old new × (status ≡ 8))
 
 -- A check by what comes of it. The files are looked at, of tables that are those which the records tell; the records or the
--- store fail, which one of their counts tells; the records are refused, as a load of them is told to be; memory is wanting.
+-- store fail, which one of their counts tells; the records are refused, as a load of them is told to be; memory runs out.
 -- In all cases but the second both counts stand still.
 pub data Checks (records : Recorded) (records_faults : ℕ) (shelf : Shelf) (blobs blobs' : ℕ) (out out' : Output) (status : ℕ) : Type 0 where
   looked : (t : Tables) (damages : List Damaged) → IsBuiltUp t → IfSome records.tables (λ told. t ≡ told) → IfSome records.loading (λ told. told ≡ Ok t)

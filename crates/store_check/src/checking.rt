@@ -38,8 +38,8 @@ fn refuse_row<O: Sink>(alloc: Global, out: &mut O, frame: u64, at: u64) -> u8
     }
 }
 
-/// Prints which file is damaged, where that keeps a repository from being opened. Its status is 5, or 8 where memory is
-/// wanting for the line.
+/// Prints which file is damaged, where that keeps a repository from being opened. Its status is 5, or 8 when
+/// memory runs out for the line.
 pub fn refuse_damaged<O: Sink>(alloc: Global, out: &mut O, damaged: &Damaged) -> u8
     ensures { RefusesDamaged damaged.now (output (O.taken out.old) (O.write_faults out.old)) (output (O.taken out.new) (O.write_faults out.new)) result }
 {
@@ -49,8 +49,8 @@ pub fn refuse_damaged<O: Sink>(alloc: Global, out: &mut O, damaged: &Damaged) ->
     }
 }
 
-/// Prints why the recorded files could not be looked at, as far as that can be printed. Its status is 4, or 8 where memory
-/// was wanting, or is for the line.
+/// Prints why the recorded files could not be looked at, as far as that can be printed. Its status is 4, or 8 when
+/// memory ran out, or is for the line.
 pub fn refuse_store<O: Sink>(alloc: Global, out: &mut O, refusal: AuditFault) -> u8
     ensures { RefusesStore refusal (output (O.taken out.old) (O.write_faults out.old)) (output (O.taken out.new) (O.write_faults out.new)) result }
 {
@@ -72,7 +72,7 @@ pub fn refuse_store<O: Sink>(alloc: Global, out: &mut O, refusal: AuditFault) ->
 /// | 4 | the records are another's | `mvnrepod: not-ours` |
 /// | 4 | the change of this number, counted from 0, cannot be read or does not fit at this place of its bytes | `mvnrepod: row FRAME AT` |
 /// | 7 | `out` failed at the lines of status 0 or 9 | a front of these |
-/// | 8 | memory was wanting | `mvnrepod: memory` |
+/// | 8 | memory ran out | `mvnrepod: memory` |
 /// | 9 | some are not | `damaged REPO/PATH recorded L S M found L S M` or `.. found none` for each, then `checked N` |
 ///
 /// Files stand in byte order of repository and then of path, one of a hosted repository before a proxy's. Compared are a file's

@@ -17,7 +17,7 @@ use texts::Bytes;
 ///
 /// A host is a name, which the system's resolver looks up, or an address; at most four addresses are tried. An exchange fails
 /// where none is reached, and where a write, a read or the whole takes longer than the limits allow. After two exchanges with
-/// a host and port that failed, one behind the other, each further one fails at once until the pause is over; then one is
+/// a host and port that failed, one after the other, each further one fails at once until the pause is over; then one is
 /// tried. Names are looked up outside these limits.
 #[derive(Drop)]
 pub struct TcpRemote<R: Net + Clock + Drop> {

@@ -56,7 +56,7 @@ impl Troubles {
         }
     }
 
-    /// An exchange failed. It is not remembered where memory is wanting, or there is no clock, or 64 others are known.
+    /// An exchange failed. It is not remembered when memory runs out, or there is no clock, or 64 others are known.
     pub(crate) fn add(&mut self, alloc: Global, timer: &impl Clock, host: &str, port: u16) {
         let Ok(last) = Instant::now(timer) else {
             return;

@@ -6,7 +6,7 @@ use crate::jobs::{Job, run_all};
 use std::sync::Wait;
 use std::thread::{Threads, join};
 
-/// Runs all jobs at once and one more beside them: that one and all but the last job each in a thread of its own, and the last in this thread. Where a thread can't be made, the work is done in this thread: a job behind the last one, and the one beside them behind all jobs. So it may wait for the jobs, and no job waits for it. What the jobs give comes in their order, in a room that was made before and is empty. It takes no memory but what the jobs and the threads take.
+/// Runs all jobs at once and one more beside them: that one and all but the last job each in a thread of its own, and the last in this thread. Where a thread can't be made, the work is done in this thread: a job after the last one, and the one beside them after all jobs. So it may wait for the jobs, and no job waits for it. What the jobs give comes in their order, in a room that was made before and is empty. It takes no memory but what the jobs and the threads take.
 pub fn run_beside<A: Job + Send, Z: Job + Send, R: Threads + Wait + Sync>(
     rt: &R,
     beside: Z,

@@ -36,7 +36,7 @@ pub struct NoteToken<C, R, T> {
 pub type Note<T> = NoteToken<<T as Thing>::Call, <T as Thing>::Reply, T>;
 
 impl<T: Thing> Turns<T> {
-    /// Begins the history of an object, with the one seat, which has all 2^64 parts. The one error is want of memory, and then the object comes back.
+    /// Begins the history of an object, with the one seat, which has all 2^64 parts. The one error is out of memory, and then the object comes back.
     pub fn begin(alloc: Global, thing: T) -> Result<(Turns<T>, Seat<T>), (T, AllocError)>
         ensures turns { IfOk result (λ r. opening r.0 ≡ thing) }
         ensures seat { IfOk result (λ r. IsSeatOf (IsStep T.fixed T.may_ask T.turned) r.0 r.1) }

@@ -7,7 +7,7 @@ use std::alloc::{AllocError, Global};
 
 const HEAD: &[u8] = b"PUT /a HTTP/1.1\n\n";
 
-/// What comes behind a body.
+/// What comes after a body.
 const NEXT: &[u8] = b"next";
 
 /// So many bytes, of which no two pieces are the same.
@@ -19,7 +19,7 @@ fn many(alloc: Global, length: u64) -> Result<Vec<u8>, AllocError> {
     Ok(bytes)
 }
 
-/// A head, a body and what comes behind it, at most so many bytes a read.
+/// A head, a body and what comes after it, at most so many bytes a read.
 fn stream_of(
     alloc: Global,
     body: &[u8],
@@ -32,7 +32,7 @@ fn stream_of(
     source_of(alloc, bytes.as_slice(), most, fails_at)
 }
 
-/// Whether the body behind the next head is this one, and what comes behind it is there too.
+/// Whether the body after the next head is this one, and what comes after it is there too.
 fn comes_whole(alloc: Global, body: &[u8], most: usize) -> Result<bool, WireFault> {
     let mut source = stream_of(alloc, body, most, u64::MAX)?;
     let mut wire = Wire::new();

@@ -62,7 +62,7 @@ impl Choices {
         options.get(self.below(count)).copied().unwrap_or(b"")
     }
 
-    // Puts one of the options behind the bytes.
+    // Puts one of the options after the bytes.
     fn add(&mut self, bytes: &mut Vec<u8>, options: &[&'static [u8]]) -> Result<(), AllocError> {
         bytes.extend_from_slice(self.pick(options))
     }
@@ -110,7 +110,7 @@ impl Choices {
     }
 }
 
-// What is left behind what a call gives, or none where the plain program says something else.
+// What is left after what a call gives, or none where the plain program says something else.
 fn step<'a>(
     alloc: Global,
     wire: &mut Wire,

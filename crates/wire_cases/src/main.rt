@@ -3,7 +3,7 @@
 //! `case_texts`. Streams are also generated, and a plain, slow program says the same of them. The status is 0 where all cases go as they
 //! have to.
 //!
-//! The step `fetch` has what is fetched and its limit, `file N` or `document N`, and each answer of the remote behind `<<`. `!` is an
+//! The step `fetch` has what is fetched and its limit, `file N` or `document N`, and each answer of the remote after `<<`. `!` is an
 //! exchange that fails, `=` in front of a text an answer 200 with this body, `-` no bytes, and any other text is literal, `|` being
 //! CR LF. It tells what comes of it and how many exchanges were made; `made N` tells one of these: host, port, limit and request
 //! (RFC 9110, section 15; RFC 9112, sections 4, 6.3 and 7.1).

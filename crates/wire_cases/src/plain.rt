@@ -5,7 +5,7 @@ ghost use Rattle.std.specs.Prelude.{◌≤◌, length, IfSome};
 
 use std::alloc::{AllocError, Global};
 
-// A part with a mark behind it.
+// A part with a mark after it.
 fn add(line: &mut Vec<u8>, part: &[u8], mark: u8) -> Result<(), AllocError> {
     line.extend_from_slice(part)?;
     line.push(mark)?;
@@ -26,7 +26,7 @@ pub(crate) fn start(
     Ok(line)
 }
 
-/// Puts a field behind a request's line.
+/// Puts a field after a request's line.
 pub(crate) fn add_field(line: &mut Vec<u8>, name: &[u8], value: &[u8]) -> Result<(), AllocError> {
     add(line, name, b'=')?;
     add(line, value, b'|')
@@ -75,7 +75,7 @@ fn blank_length(window: &[u8]) -> usize
     window.len().saturating_sub(rest.len())
 }
 
-// Behind the first empty line of a head that begins at `start`.
+// After the first empty line of a head that begins at `start`.
 fn end_of_head(window: &[u8], start: usize) -> Option<usize>
     requires { start ≤ length window.now }
     ensures { IfSome result (λ end. (start ≤ end) × (end ≤ length window.now)) }
@@ -99,7 +99,7 @@ fn refused(alloc: Global, word: &[u8]) -> Result<(Vec<u8>, bool), AllocError> {
 }
 
 fn read(alloc: Global, lines: &[&[u8]]) -> Result<(Vec<u8>, bool), AllocError> {
-    // The first line, 64 lines of fields, the empty line, and nothing behind its line feed.
+    // The first line, 64 lines of fields, the empty line, and nothing after its line feed.
     if lines.len() > 67 {
         return refused(alloc, b"TooLong");
     }
@@ -141,7 +141,7 @@ fn minor_of(version: &[u8]) -> Option<&'static [u8]> {
     }
 }
 
-// Puts the fields behind a request's line, up to a line that is none. Whether each is one.
+// Puts the fields after a request's line, up to a line that is none. Whether each is one.
 fn add_fields(line: &mut Vec<u8>, fields: &[&[u8]]) -> Result<bool, AllocError> {
     for field in fields {
         match pair(without_end(field)) {
@@ -188,7 +188,7 @@ fn is_target(text: &[u8]) -> bool {
     !text.is_empty() && is_visible(text, b'!', b'!') && str::from_utf8(text).is_ok()
 }
 
-// What stands before the first mark and behind it.
+// What stands before the first mark and after it.
 fn halves(line: &[u8], mark: u8) -> Option<(&[u8], &[u8])> {
     for i in 0..line.len() {
         if line[i] == mark {

@@ -49,7 +49,7 @@ pub(crate) fn said(
     }
 }
 
-/// A wire over a source, and what its calls gave, a semicolon behind each.
+/// A wire over a source, and what its calls gave, a semicolon after each.
 #[derive(Drop)]
 struct Calls {
     alloc: Global,

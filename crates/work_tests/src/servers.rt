@@ -58,7 +58,7 @@ fn a_desk_serves_one_connection_after_another(rt: HostRuntime) -> Result<(), Fai
     serve(&rt, rt.alloc(), &OF_TWO_CONNECTIONS)
 }
 
-// The second call of the port fails, behind one connection.
+// The second call of the port fails, after one connection.
 static OF_A_FAULT: Case = Case {
     desks: &[&[INPUT, INPUT_1]],
     failing: &[1],

@@ -7,7 +7,7 @@ use Rattle.std.proofs.lemmas.List.{append-nil}
 use Rattle.std.proofs.lemmas.Slice.Eq.{bytes_eq-Decides}
 use Rattle.xml_subset.specs.Content.{Content, Nothing, Data, Reference, Remark, Leaf, Node, data_of, is_blank, is_document, is_within, outlined, written}
 use Rattle.xml_subset.specs.Cut.{is_white, trimmed}
-use Rattle.xml_subset.specs.Document.{begun_behind, fault, may_stand, open_behind}
+use Rattle.xml_subset.specs.Document.{begun_after, fault, may_stand, open_after}
 use Rattle.xml_subset.specs.Element.{elements, own_text}
 use Rattle.xml_subset.specs.Token.{Placed, Token, Close, End}
 
@@ -44,11 +44,11 @@ elements-written level (Node name g f) ts =
     ∙ ap (λ es. record { depth = suc level; name = name; text = trimmed (data_of g) } ∷ es)
     (ap (λ es. outlined (suc level) g ++ es) (elements-written level f ts) ∙ sym (append_assoc (outlined (suc level) g) (outlined level f) (elements level ts)))
 
--- ---- tokens that may stand one behind the other
+-- ---- tokens that may stand one after the other
 
 abbrev pub accepted : List ℕ → List (List ℕ) → Bool → List Token → Bool
 accepted root ns b [] = true
-accepted root ns b (t ∷ ts) = may_stand root ns b t && accepted root (open_behind ns t) (begun_behind b t) ts
+accepted root ns b (t ∷ ts) = may_stand root ns b t && accepted root (open_after ns t) (begun_after b t) ts
 
 no_place : {A : Type 0} (b : Bool) (o : Option A) (x : A) → cond b o (Some x) ≡ None → (b ≡ true) × (o ≡ None)
 no_place true o x e = (refl, e)
@@ -64,15 +64,15 @@ parts false b e = absurd cc
 pub faultless : (root : List ℕ) (ns : List (List ℕ)) (b : Bool) (ps : List Placed) → fault root ns b ps ≡ None → accepted root ns b (map (λ p. p.token) ps) ≡ true
 faultless root ns b [] e = refl
 faultless root ns b (p ∷ ps) e =
-    let h = no_place (may_stand root ns b p.token) (fault root (open_behind ns p.token) (begun_behind b p.token) ps) p.left e in
-    both (may_stand root ns b p.token) _ h.0 (faultless root (open_behind ns p.token) (begun_behind b p.token) ps h.1)
+    let h = no_place (may_stand root ns b p.token) (fault root (open_after ns p.token) (begun_after b p.token) ps) p.left e in
+    both (may_stand root ns b p.token) _ h.0 (faultless root (open_after ns p.token) (begun_after b p.token) ps h.1)
 
 pub accepted_faultless : (root : List ℕ) (ns : List (List ℕ)) (b : Bool) (ps : List Placed) → accepted root ns b (map (λ p. p.token) ps) ≡ true → fault root ns b ps ≡ None
 accepted_faultless root ns b [] e = refl
 accepted_faultless root ns b (p ∷ ps) e =
     let h = parts (may_stand root ns b p.token) _ e in
-    ap (λ t. cond t (fault root (open_behind ns p.token) (begun_behind b p.token) ps) (Some p.left)) h.0
-    ∙ accepted_faultless root (open_behind ns p.token) (begun_behind b p.token) ps h.1
+    ap (λ t. cond t (fault root (open_after ns p.token) (begun_after b p.token) ps) (Some p.left)) h.0
+    ∙ accepted_faultless root (open_after ns p.token) (begun_after b p.token) ps h.1
 
 -- ---- the tokens of a tree
 
@@ -109,7 +109,7 @@ accepted-content root n ns (suc levels) (Node name g f) ts h =
     ∙ ap (λ b. is_within levels g && b) (accepted-content root n ns (suc levels) f ts h)
     ∙ and_assoc (is_within levels g) (is_within (suc levels) f) (accepted root (n ∷ ns) true ts)
 
--- behind the root
+-- after the root
 accepted-blank : (root : List ℕ) (f : Content) → accepted root [] true (written f (End ∷ [])) ≡ is_blank f
 accepted-blank root Nothing = refl
 accepted-blank root (Data bytes f) = ap (λ b. list_all is_white bytes && b) (accepted-blank root f)

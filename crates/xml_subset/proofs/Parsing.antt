@@ -1,4 +1,4 @@
--- Tokens that may stand one behind the other are those of a tree.
+-- Tokens that may stand one after the other are those of a tree.
 use Rattle.std.proofs.Common.{ℕ, zero, suc, ◌≡◌, ◌∙◌, ap, sym, refl, Bool, true, false, cond, List, [], ◌∷◌, length, drop, map, Option, Some, None, Ok, arith, codes, ◌==◌}
 use Rattle.std.specs.Prelude.{IfSome, bytes_eq, take_while}
 use Rattle.std.specs.List.{prefix_len}
@@ -8,7 +8,7 @@ use Rattle.std.proofs.lemmas.Slice.Eq.{bytes_eq-Decides}
 use Rattle.xml_subset.specs.Content.{Content, Nothing, Data, Reference, Remark, Leaf, Node, Writes, is_document, outlined, written}
 use Rattle.byte_cuts.specs.Cuts.{behind}
 use Rattle.xml_subset.specs.Cut.{after, without_white}
-use Rattle.xml_subset.specs.Document.{fault, judged, may_stand, outline, outline_behind, without_declaration, without_mark}
+use Rattle.xml_subset.specs.Document.{fault, judged, may_stand, outline, outline_after, without_declaration, without_mark}
 use Rattle.xml_subset.specs.Element.{Element, elements}
 use Rattle.xml_subset.specs.Name.{name}
 use Rattle.xml_subset.specs.Reference.{reference}
@@ -101,7 +101,7 @@ tokens_ended (suc n) (c ∷ text) =
 
 -- ---- a tree for the tokens
 
--- the rest of a document in which elements of these names are open, by what follows in each of them and behind the root
+-- the rest of a document in which elements of these names are open, by what follows in each of them and after the root
 abbrev pub closed : List (List ℕ) → List Content → Content → List Token
 closed [] fs tail = written tail (End ∷ [])
 closed (n ∷ ns) [] tail = []
@@ -165,9 +165,9 @@ judged_ok : (len : ℕ) (ps : List Placed) (o : Option ℕ) (es : List Element) 
 judged_ok len ps None es e = (refl, cc)
 judged_ok len ps (Some left) es e = absurd cc
 
-behind_ok : (root text : List ℕ) (o : Option (List ℕ)) (es : List Element) → outline_behind root text o ≡ Ok es → (body : List ℕ) × (o ≡ Some body) × (outline_behind root text (Some body) ≡ Ok es)
-behind_ok root text None es e = absurd cc
-behind_ok root text (Some body) es e = (body, refl, e)
+after_ok : (root text : List ℕ) (o : Option (List ℕ)) (es : List Element) → outline_after root text o ≡ Ok es → (body : List ℕ) × (o ≡ Some body) × (outline_after root text (Some body) ≡ Ok es)
+after_ok root text None es e = absurd cc
+after_ok root text (Some body) es e = (body, refl, e)
 
 elements_of : (d : Content) → elements 0 (written d (End ∷ [])) ≡ outlined 0 d
 elements_of d = elements-written 0 d (End ∷ []) ∙ append-nil (outlined 0 d)
@@ -175,7 +175,7 @@ elements_of d = elements-written 0 d (End ∷ []) ∙ append-nil (outlined 0 d)
 -- what is read is the outline of a document that the text writes
 pub read_is_written : (root text : List ℕ) (es : List Element) → outline root text ≡ Ok es → (d : Content) × Writes root text d × (es ≡ outlined 0 d)
 read_is_written root text es e =
-    let found = behind_ok root text (without_declaration (without_mark text)) es e in
+    let found = after_ok root text (without_declaration (without_mark text)) es e in
     let body = found.0 in
     let good = judged_ok (length text) (tokens body) (fault root [] false (tokens body)) es found.2 in
     let may = faultless root [] false (tokens body) good.0 in
@@ -189,6 +189,6 @@ written_is_read root text d w =
     let body = w.1.0 in
     let may : accepted root [] false (map (λ p. p.token) (tokens body)) ≡ true
     = ap (accepted root [] false) w.1.2 ∙ accepted-document root d ∙ w.0 in
-    ap (outline_behind root text) w.1.1
+    ap (outline_after root text) w.1.1
     ∙ ap (judged (length text) (tokens body)) (accepted_faultless root [] false (tokens body) may)
     ∙ ap Ok (ap (elements 0) w.1.2 ∙ elements_of d)

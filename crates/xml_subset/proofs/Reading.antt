@@ -5,7 +5,7 @@ use Rattle.std.proofs.lemmas.List.{append-nil}
 use Rattle.xml_subset.specs.declared.document.XmlFault.{XmlFault}
 use Rattle.xml_subset.specs.declared.document.XmlFault.TheVariants.{Malformed}
 use Rattle.xml_subset.specs.declared.tree.Tree.{Tree}
-use Rattle.xml_subset.specs.Document.{IsFaultOf, begun_behind, fault, judged, may_stand, open_behind, outline_behind}
+use Rattle.xml_subset.specs.Document.{IsFaultOf, begun_after, fault, judged, may_stand, open_after, outline_after}
 use Rattle.xml_subset.specs.Element.{Element, elements}
 use Rattle.xml_subset.specs.Token.{Cut, Placed, Token, End, broken, first_token, tokens, tokens_within}
 use Rattle.xml_subset.specs.Tree.{Takes, begun, completed, has_begun, names, with_rest}
@@ -49,21 +49,21 @@ tokens-more (c ∷ text) cut e =
 
 -- ---- faults
 
-stands : (root : List ℕ) (ns : List (List ℕ)) (b : Bool) (p : Placed) (ps : List Placed) → may_stand root ns b p.token ≡ true → fault root ns b (p ∷ ps) ≡ fault root (open_behind ns p.token) (begun_behind b p.token) ps
-stands root ns b p ps e = ap (λ t. cond t (fault root (open_behind ns p.token) (begun_behind b p.token) ps) (Some p.left)) e
+stands : (root : List ℕ) (ns : List (List ℕ)) (b : Bool) (p : Placed) (ps : List Placed) → may_stand root ns b p.token ≡ true → fault root ns b (p ∷ ps) ≡ fault root (open_after ns p.token) (begun_after b p.token) ps
+stands root ns b p ps e = ap (λ t. cond t (fault root (open_after ns p.token) (begun_after b p.token) ps) (Some p.left)) e
 
 falls : (root : List ℕ) (ns : List (List ℕ)) (b : Bool) (p : Placed) (ps : List Placed) → may_stand root ns b p.token ≡ false → fault root ns b (p ∷ ps) ≡ Some p.left
-falls root ns b p ps e = ap (λ t. cond t (fault root (open_behind ns p.token) (begun_behind b p.token) ps) (Some p.left)) e
+falls root ns b p ps e = ap (λ t. cond t (fault root (open_after ns p.token) (begun_after b p.token) ps) (Some p.left)) e
 
 -- the fault of the tree's rest
-abbrev pub fault_behind : List ℕ → Tree → List ℕ → Option ℕ
-fault_behind root t rest = fault root (names t.open.items) (has_begun (begun t)) (tokens rest)
+abbrev pub fault_after : List ℕ → Tree → List ℕ → Option ℕ
+fault_after root t rest = fault root (names t.open.items) (has_begun (begun t)) (tokens rest)
 
 abbrev pub tokens_of : List ℕ → List Token
 tokens_of text = map (λ p. p.token) (tokens text)
 
 -- a token is taken
-pub fault_taken : (root : List ℕ) (old new : Tree) (rest : List ℕ) (cut : Cut) → first_token rest ≡ Some cut → may_stand root (names old.open.items) (has_begun (begun old)) cut.0 ≡ true → Takes old new cut.0 → fault_behind root new cut.1 ≡ fault_behind root old rest
+pub fault_taken : (root : List ℕ) (old new : Tree) (rest : List ℕ) (cut : Cut) → first_token rest ≡ Some cut → may_stand root (names old.open.items) (has_begun (begun old)) cut.0 ≡ true → Takes old new cut.0 → fault_after root new cut.1 ≡ fault_after root old rest
 fault_taken root old new rest cut e may takes =
     (λ i. fault root (takes.names i) (takes.begun i) (tokens cut.1))
     ∙ sym (ap (fault root (names old.open.items) (has_begun (begun old))) (tokens-more rest cut e)
@@ -75,13 +75,13 @@ elements_taken old new rest cut e takes =
 
 -- ---- what is read in all
 
-pub read_fault : (root text body : List ℕ) (left : ℕ) → fault root [] false (tokens body) ≡ Some left → outline_behind root text (Some body) ≡ Err (length text - left)
+pub read_fault : (root text body : List ℕ) (left : ℕ) → fault root [] false (tokens body) ≡ Some left → outline_after root text (Some body) ≡ Err (length text - left)
 read_fault root text body left e = ap (judged (length text) (tokens body)) e
 
 -- a whole tree at the end
 pub read_whole : (root text body rest : List ℕ) (t : Tree) → length rest ≡ 0 → t.open.items ≡ [] → may_stand root (names t.open.items) (has_begun (begun t)) End ≡ true
-    → fault_behind root t rest ≡ fault root [] false (tokens body) → with_rest t (tokens_of rest) ≡ elements 0 (tokens_of body)
-    → outline_behind root text (Some body) ≡ Ok (begun t)
+    → fault_after root t rest ≡ fault root [] false (tokens body) → with_rest t (tokens_of rest) ≡ elements 0 (tokens_of body)
+    → outline_after root text (Some body) ≡ Ok (begun t)
 read_whole root text body [] t ends closed may faults same =
     ap (judged (length text) (tokens body))
     (sym faults ∙ stands root (names t.open.items) (has_begun (begun t)) (record { left = 0; token = End }) [] may)
@@ -90,7 +90,7 @@ read_whole root text body (c ∷ rest) t ends closed may faults same = absurd (o
 
 -- a tree that is not whole at the end
 pub read_unfinished : (root text body rest : List ℕ) (t : Tree) → length rest ≡ 0 → may_stand root (names t.open.items) (has_begun (begun t)) End ≡ false
-    → fault_behind root t rest ≡ fault root [] false (tokens body) → outline_behind root text (Some body) ≡ Err (length text - length rest)
+    → fault_after root t rest ≡ fault root [] false (tokens body) → outline_after root text (Some body) ≡ Err (length text - length rest)
 read_unfinished root text body [] t ends may faults =
     read_fault root text body 0 (sym faults ∙ falls root (names t.open.items) (has_begun (begun t)) (record { left = 0; token = End }) [] may)
 read_unfinished root text body (c ∷ rest) t ends may faults = absurd (omega arith)

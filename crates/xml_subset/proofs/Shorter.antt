@@ -5,7 +5,7 @@ use Rattle.std.specs.List.{starts_with, prefix_len, position_or_len, before_firs
 use Rattle.std.specs.Option.{option_map, option_map_or, unwrap_or}
 use Rattle.byte_cuts.specs.Cuts.{behind}
 use Rattle.xml_subset.specs.Cut.{after, begins, is_white, or_else, without_white, ◌>>=◌}
-use Rattle.xml_subset.specs.Document.{declaration_behind, without_declaration, without_mark}
+use Rattle.xml_subset.specs.Document.{declaration_after, without_declaration, without_mark}
 use Rattle.xml_subset.specs.Name.{is_name_byte, is_name_start, name}
 use Rattle.xml_subset.specs.Reference.{numbered, predefined, reference}
 use Rattle.xml_subset.specs.Tag.{attribute, tag_end, tag_rest, value, value_end}
@@ -214,7 +214,7 @@ pub without_mark_shorter : (text : List ℕ) → length (without_mark text) ≤ 
 without_mark_shorter text =
     unwrapped (length text) (behind (0xEF ∷ 0xBB ∷ 0xBF ∷ []) text) text (behind_shorter (0xEF ∷ 0xBB ∷ 0xBF ∷ []) text) (omega arith)
 
-declared_shorter : (text : List ℕ) (o : Option (List ℕ)) → AtMost (length text) o → AtMost (length text) (declaration_behind text o)
+declared_shorter : (text : List ℕ) (o : Option (List ℕ)) → AtMost (length text) o → AtMost (length text) (declaration_after text o)
 declared_shorter text None h = omega arith
 declared_shorter text (Some rest) h =
     chosen (λ (x : List ℕ). length x ≤ length text) (begins is_white rest) (after (codes "?>") rest) (Some text)

@@ -204,7 +204,7 @@ last_data : first_token (10 ∷ []) ≡ Some (Text (10 ∷ []), [])
 unfolding first_token
 last_data = refl
 
--- the tokens behind the content of the root
+-- the tokens after the content of the root
 last_tokens : (root : List ℕ) → is_name root ≡ true → tokens_of (60 ∷ 47 ∷ (root ++ 62 ∷ 10 ∷ [])) ≡ Close root ∷ Text (10 ∷ []) ∷ End ∷ []
 last_tokens root e =
     more (60 ∷ 47 ∷ (root ++ 62 ∷ 10 ∷ [])) (Close root) (10 ∷ []) (Text (10 ∷ []) ∷ End ∷ []) (first-close root (10 ∷ []) e)

@@ -4,9 +4,9 @@ use Rattle.xml_subset.specs.Cut.{begins, is_white, or_else, without_white, ◌>>
 use Rattle.xml_subset.specs.Tag.{attribute, tag_end, tag_rest}
 use Rattle.xml_subset.proofs.Shorter.{AtMost, attribute_shorter, rest_lengthened, some_at_most, white_front}
 
--- the attribute behind white space leaves less than the text
-attribute_behind : (c : ℕ) (text : List ℕ) → is_white c ≡ true → AtMost (length text) (attribute (without_white (c ∷ text)))
-attribute_behind c text white =
+-- the attribute after white space leaves less than the text
+attribute_after : (c : ℕ) (text : List ℕ) → is_white c ≡ true → AtMost (length text) (attribute (without_white (c ∷ text)))
+attribute_after c text white =
     rest_lengthened (length (without_white (c ∷ text))) (length text) (attribute (without_white (c ∷ text)))
     (white_front c text white) (attribute_shorter (without_white (c ∷ text)))
 
@@ -29,7 +29,7 @@ tag_rest-same (suc m) zero (c ∷ text) h k = absurd (omega arith)
 tag_rest-same (suc m) (suc n) (c ∷ text) h k =
     ap (or_else (tag_end (without_white (c ∷ text))))
     (same_where (is_white c) (attribute (without_white (c ∷ text)) >>= tag_rest m) (attribute (without_white (c ∷ text)) >>= tag_rest n)
-    (λ white. same_bind (length text) (attribute (without_white (c ∷ text))) (tag_rest m) (tag_rest n) (attribute_behind c text white)
+    (λ white. same_bind (length text) (attribute (without_white (c ∷ text))) (tag_rest m) (tag_rest n) (attribute_after c text white)
     (λ x le. tag_rest-same m n x (omega arith) (omega arith))))
 
 -- the end of the tag
@@ -40,7 +40,7 @@ tag_rest-end (suc n) text end h = ap (λ o. or_else o (cond (begins is_white tex
 pub attribute_less : (text rest : List ℕ) → begins is_white text ≡ true → attribute (without_white text) ≡ Some rest → length rest < length text
 attribute_less [] rest white found = absurd cc
 attribute_less (c ∷ text) rest white found =
-    omega (arith, some_at_most (length text) (attribute (without_white (c ∷ text))) rest found (attribute_behind c text white))
+    omega (arith, some_at_most (length text) (attribute (without_white (c ∷ text))) rest found (attribute_after c text white))
 
 pub tag_next : (b : Bool) (o : Option (Bool × List ℕ)) (a : Option (List ℕ)) (rest : List ℕ) (f : List ℕ → Option (Bool × List ℕ)) → o ≡ None → b ≡ true → a ≡ Some rest → or_else o (cond b (a >>= f) None) ≡ f rest
 tag_next b o a rest f e white found = ap (λ o. or_else o (cond b (a >>= f) None)) e ∙ ap (λ b. cond b (a >>= f) None) white ∙ ap (λ a. a >>= f) found
@@ -51,4 +51,4 @@ tag_rest-more [] rest e white found = absurd cc
 tag_rest-more (c ∷ text) rest e white found =
     tag_next (is_white c) (tag_end (without_white (c ∷ text))) (attribute (without_white (c ∷ text))) rest (tag_rest (length text)) e white found
     ∙ tag_rest-same (length text) (length rest) rest
-    (some_at_most (length text) (attribute (without_white (c ∷ text))) rest found (attribute_behind c text white)) (omega arith)
+    (some_at_most (length text) (attribute (without_white (c ∷ text))) rest found (attribute_after c text white)) (omega arith)

@@ -75,7 +75,7 @@ is_document root (Remark more) = is_document root more
 is_document root (Leaf name more) = bytes_eq name root && is_blank more
 is_document root (Node name inner more) = bytes_eq name root && (is_within 31 inner && is_blank more)
 
--- Behind the mark and the declaration, the text is written in the tokens of this document.
+-- After the mark and the declaration, the text is written in the tokens of this document.
 abbrev pub Writes : List ℕ → List ℕ → Content → Type 0
 Writes root text d =
     IsTrue (is_document root d) × ((body : List ℕ) × (without_declaration (without_mark text) ≡ Some body) × (map (λ p. p.token) (tokens body) ≡ written d (End ∷ [])))

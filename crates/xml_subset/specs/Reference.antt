@@ -34,7 +34,7 @@ predefined inner =
     else (if bytes_eq inner (codes "apos") then Some 39
     else None))))
 
--- what stands behind a `&`: the character whose reference ends at the first `;`, and what follows
+-- what stands after a `&`: the character whose reference ends at the first `;`, and what follows
 abbrev pub reference : List ℕ → Option (ℕ × List ℕ)
 reference text = do
   rest ← behind (codes ";") (drop (position_or_len (λ c. c == 59) text) text)

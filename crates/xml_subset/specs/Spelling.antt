@@ -41,7 +41,7 @@ spelled (Node name inner more) rest =
 abbrev pub is_value : List ℕ → Bool
 is_value value = list_all (λ c. not (c == 34 || c == 60)) value
 
--- an attribute behind a blank, and then this text
+-- an attribute after a blank, and then this text
 abbrev pub attribute_text : List ℕ → List ℕ → List ℕ → List ℕ
 attribute_text name value rest = 32 ∷ (name ++ 61 ∷ 34 ∷ (value ++ 34 ∷ rest))
 

@@ -27,7 +27,7 @@ tag_end text =
     or_else (option_map (λ rest. (false, rest)) (behind (codes ">") text))
     (option_map (λ rest. (true, rest)) (behind (codes "/>") text))
 
--- the attributes, each behind white space, and the end of the tag; there are no more of them than the number
+-- the attributes, each after white space, and the end of the tag; there are no more of them than the number
 abbrev pub tag_rest : ℕ → List ℕ → Option (Bool × List ℕ)
 tag_rest zero text = tag_end (without_white text)
 tag_rest (suc n) text =

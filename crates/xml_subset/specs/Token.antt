@@ -58,13 +58,13 @@ open_tag text = do
   end ← tag_rest (length named.1) named.1
   Some (if end.0 then Empty named.0 else Open named.0, end.1)
 
--- what stands behind a `<`: a comment, a close tag, or another tag
+-- what stands after a `<`: a comment, a close tag, or another tag
 abbrev pub markup : List ℕ → Option Cut
 markup text =
     option_map_or comment (behind (codes "!--") text)
     (option_map_or close_tag (behind (codes "/") text) (open_tag text))
 
--- what stands behind a `&`
+-- what stands after a `&`
 abbrev pub referred : List ℕ → Option Cut
 referred text = do
   found ← reference text

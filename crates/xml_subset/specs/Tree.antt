@@ -4,7 +4,7 @@ use Rattle.std.specs.List.{AllByRecursion}
 use Rattle.xml_subset.specs.declared.tree.Opened.{Opened}
 use Rattle.xml_subset.specs.declared.tree.Tree.{Tree}
 use Rattle.xml_subset.specs.Cut.{trimmed}
-use Rattle.xml_subset.specs.Document.{begun_behind, open_behind}
+use Rattle.xml_subset.specs.Document.{begun_after, open_after}
 use Rattle.xml_subset.specs.Element.{Element, elements, own_text, shown}
 use Rattle.xml_subset.specs.Token.{Token}
 
@@ -47,6 +47,6 @@ IsSound t = IsInRange (length t.elements.items) t.open.items
 -- the new tree is the old one with one more token
 pub record Takes (old new : Tree) (token : Token) : Type 0 where
   pub elements : (ts : List Token) → with_rest new ts ≡ with_rest old (token ∷ ts)
-  pub names : names new.open.items ≡ open_behind (names old.open.items) token
-  pub begun : has_begun (begun new) ≡ begun_behind (has_begun (begun old)) token
+  pub names : names new.open.items ≡ open_after (names old.open.items) token
+  pub begun : has_begun (begun new) ≡ begun_after (has_begun (begun old)) token
   pub sound : IsSound new

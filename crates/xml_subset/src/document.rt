@@ -2,7 +2,7 @@
 
 ghost use Rattle.std.specs.Prelude.{◌≡◌, ◌-◌, ◌≤◌, IfOk, IfErr, Ok, Some, map, length};
 ghost use Rattle.std.specs.Option.{option_copied};
-ghost use Rattle.xml_subset.specs.Document.{IsFaultOf, outline, outline_behind, without_declaration, without_mark};
+ghost use Rattle.xml_subset.specs.Document.{IsFaultOf, outline, outline_after, without_declaration, without_mark};
 ghost use Rattle.xml_subset.specs.Element.{shown};
 ghost use Rattle.xml_subset.specs.declared.document.XmlFault.TheVariants.{Malformed};
 
@@ -48,14 +48,14 @@ impl From<AllocError> for XmlFault {
     }
 }
 
-/// The text behind a byte order mark.
+/// The text after a byte order mark.
 fn without_mark(text: &[u8]) -> &[u8]
     ensures { result.now ≡ without_mark text.now }
 {
     behind(&[0xEF, 0xBB, 0xBF], text).unwrap_or(text)
 }
 
-/// The text behind a declaration.
+/// The text after a declaration.
 fn without_declaration(text: &[u8]) -> Option<&[u8]>
     ensures { option_copied result ≡ without_declaration text.now }
 {
@@ -96,8 +96,8 @@ fn elements<'a>(
     mut rest: &'a [u8],
 ) -> Result<Vec<Element<'a>>, XmlFault>
     requires { length rest.now ≤ length text.now }
-    ensures elements { IfOk result (λ es. outline_behind root.now text.now (Some rest.entry.now) ≡ Ok (map shown es.items)) }
-    ensures fault { IfErr result (IsFaultOf (outline_behind root.now text.now (Some rest.entry.now))) }
+    ensures elements { IfOk result (λ es. outline_after root.now text.now (Some rest.entry.now) ≡ Ok (map shown es.items)) }
+    ensures fault { IfErr result (IsFaultOf (outline_after root.now text.now (Some rest.entry.now))) }
 {
     let mut tree = Tree::new(alloc);
     while !rest.is_empty() {

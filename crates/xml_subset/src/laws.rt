@@ -28,7 +28,7 @@ pub fn spelling_law()
 pub fn worked_faults()
     ensures no_end { outline (codes "metadata") (codes "<metadata>") ≡ Err 10 }
     ensures other_close_tag { outline (codes "metadata") (codes "<metadata></metadatb>") ≡ Err 10 }
-    ensures text_behind { outline (codes "metadata") (codes "<metadata/>x") ≡ Err 11 }
+    ensures text_after { outline (codes "metadata") (codes "<metadata/>x") ≡ Err 11 }
     ensures document_type { outline (codes "metadata") (codes "<!DOCTYPE x><metadata/>") ≡ Err 0 }
     ensures character_0 { outline (codes "metadata") (codes "<metadata>&#0;</metadata>") ≡ Err 10 }
     ensures section { outline (codes "metadata") (codes "<metadata><![CDATA[x]]></metadata>") ≡ Err 10 }

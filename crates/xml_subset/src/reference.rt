@@ -70,7 +70,7 @@ fn inner_len(text: &[u8]) -> usize
     text.iter().take_while(|c| **c != b';').count()
 }
 
-/// The character whose reference the text goes on with, behind a `&`.
+/// The character whose reference the text goes on with, after a `&`.
 pub(crate) fn reference(text: &[u8]) -> Option<(char, &[u8])>
     ensures { option_map (λ cut. (cut.0, cut.1.now)) result ≡ spec.reference text.now }
 {

@@ -41,7 +41,7 @@ fn data_len(text: &[u8]) -> usize
     text.iter().take_while(|c| is_text_byte(**c)).count()
 }
 
-/// The comment behind `<!--`.
+/// The comment after `<!--`.
 fn comment(text: &[u8]) -> Option<(Token<'_>, &[u8])>
     ensures { option_map (λ cut. (shown cut.0, cut.1.now)) result ≡ spec.comment text.now }
 {
@@ -49,7 +49,7 @@ fn comment(text: &[u8]) -> Option<(Token<'_>, &[u8])>
     Some((Token::Comment, rest))
 }
 
-/// The close tag behind `</`.
+/// The close tag after `</`.
 fn close_tag(text: &[u8]) -> Option<(Token<'_>, &[u8])>
     ensures { option_map (λ cut. (shown cut.0, cut.1.now)) result ≡ spec.close_tag text.now }
 {
@@ -58,7 +58,7 @@ fn close_tag(text: &[u8]) -> Option<(Token<'_>, &[u8])>
     Some((Token::Close(name), rest))
 }
 
-/// The open or empty tag behind `<`.
+/// The open or empty tag after `<`.
 fn open_tag(text: &[u8]) -> Option<(Token<'_>, &[u8])>
     ensures { option_map (λ cut. (shown cut.0, cut.1.now)) result ≡ spec.open_tag text.now }
 {
@@ -72,7 +72,7 @@ fn open_tag(text: &[u8]) -> Option<(Token<'_>, &[u8])>
     Some((token, rest))
 }
 
-/// The tag or comment behind `<`.
+/// The tag or comment after `<`.
 fn markup(text: &[u8]) -> Option<(Token<'_>, &[u8])>
     ensures { option_map (λ cut. (shown cut.0, cut.1.now)) result ≡ spec.markup text.now }
 {
@@ -85,7 +85,7 @@ fn markup(text: &[u8]) -> Option<(Token<'_>, &[u8])>
     }
 }
 
-/// The reference behind `&`.
+/// The reference after `&`.
 fn referred(text: &[u8]) -> Option<(Token<'_>, &[u8])>
     ensures { option_map (λ cut. (shown cut.0, cut.1.now)) result ≡ spec.referred text.now }
 {

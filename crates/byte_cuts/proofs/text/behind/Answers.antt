@@ -1,5 +1,5 @@
-use Rattle.byte_cuts.proofs.Strips.{behind_strip}
+use Rattle.byte_cuts.proofs.Strips.{after_strip}
 use Rattle.byte_cuts.proofs.text.behind.Goals as goal
 
 pub returns : goal.returns
-returns c = behind_strip c.args.front.now c.args.text.now c.strip_prefix.result c.strip_prefix.ensures.cases
+returns c = after_strip c.args.front.now c.args.text.now c.strip_prefix.result c.strip_prefix.ensures.cases

@@ -1,5 +1,5 @@
 use Rattle.repo_course.specs.Serving.{AllTell}
-use Rattle.repo_course.specs.Course.{manner_for}
+use Rattle.repo_course.specs.Course.{mode_for}
 use Rattle.closed_laws.proofs.AnsweredReads.{turn-looked}
 use Rattle.closed_laws.proofs.FirstLooks.{turn-answered}
 use Rattle.closed_laws.proofs.NamedServed.{file-answered, file-looked, side-answered, side-looked}
@@ -17,10 +17,10 @@ returns-clause-sides g c settings start before later e repo at tried side row la
 
 pub returns-clause-file_requests : goal.returns-clause-file_requests
 returns-clause-file_requests g c settings start before entries later repo row last old new ending input rest of_sort head request apart sound turned input_is front_is judged asks =
-    file-looked settings apart start sound before repo row entries later (manner_for request last) rest old new ending
+    file-looked settings apart start sound before repo row entries later (mode_for request last) rest old new ending
     (turn-looked settings (AllTell g.H.Held.bytes) last entries old new ending input rest repo row.path of_sort head request turned input_is front_is judged asks)
 
 pub returns-clause-side_requests : goal.returns-clause-side_requests
 returns-clause-side_requests g c settings start before entries later repo at side row last old new ending input rest of_sort head request apart sound beside turned input_is front_is judged asks =
-    side-looked settings apart start sound before repo row entries later at side (manner_for request last) rest old new ending beside
+    side-looked settings apart start sound before repo row entries later at side (mode_for request last) rest old new ending beside
     (turn-looked settings (AllTell g.H.Held.bytes) last entries old new ending input rest repo at of_sort head request turned input_is front_is judged asks)

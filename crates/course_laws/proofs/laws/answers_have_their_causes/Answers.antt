@@ -4,7 +4,7 @@ use Rattle.course_laws.specs.Duties.{duty_of, duty_without_head}
 use Rattle.course_laws.proofs.laws.answers_have_their_causes.Goals as goal
 
 pub returns-clause-requests : goal.returns-clause-requests
-returns-clause-requests c = λ judged last. let d = duty_of judged last in keeps-answers d.by_text d.manner (course_of judged last) d.most d.stand (judged-keeps judged last)
+returns-clause-requests c = λ judged last. let d = duty_of judged last in keeps-answers d.by_text d.mode (course_of judged last) d.most d.stand (judged-keeps judged last)
 
 pub returns-clause-no_heads : goal.returns-clause-no_heads
-returns-clause-no_heads c = λ fault. let d = duty_without_head fault in keeps-answers d.by_text d.manner (refuses_head fault) d.most d.stand (no-head-keeps fault)
+returns-clause-no_heads c = λ fault. let d = duty_without_head fault in keeps-answers d.by_text d.mode (refuses_head fault) d.most d.stand (no-head-keeps fault)

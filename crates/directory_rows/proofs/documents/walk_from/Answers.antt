@@ -6,7 +6,7 @@ use Rattle.directory_rows.specs.Documents.{added}
 use Rattle.ordered_rows.specs.Rows.{shown_at, shown_rows}
 use Rattle.directory_rows.specs.Walks.{IsStep, IsWalkOf}
 use Rattle.directory_rows.proofs.TextLemmas.{cmp, UpTo, UpTo-less, UpTo-trans}
-use Rattle.directory_rows.proofs.RowLemmas.{between-shown, rest-behind, stands-from, met}
+use Rattle.directory_rows.proofs.RowLemmas.{between-shown, rest-after, stands-from, met}
 use Rattle.ordered_rows.proofs.Rising.{rising-shown}
 use Rattle.directory_rows.proofs.DocumentLemmas.{added_none, added_rest, each_from}
 use Rattle.directory_rows.proofs.documents.walk_from.Goals as goal
@@ -52,7 +52,7 @@ returns-in-To-clause-left g c =
     let begun = subst (UpTo c.args.base.now) (sym c.as_str.ensures.value) (UpTo-trans c.args.base.now from path c.requires.from at.0) in
     let step = subst (IsStep d c.as_str.result.now) c.in-To.is (c.in_ok-step_from.ensures d walk begun) in
     let less : cmp path next ≡ Less = subst (λ (t : List ℕ). cmp t next ≡ Less) c.as_str.ensures.value step.0 in
-    let behind = rest-behind from next (shown_rows es) (shown_rows front) (shown_rows left) (at_row) rising (UpTo-trans from path next at.0 (UpTo-less path next less)) rows.1 less in
+    let behind = rest-after from next (shown_rows es) (shown_rows front) (shown_rows left) (at_row) rising (UpTo-trans from path next at.0 (UpTo-less path next less)) rows.1 less in
     c.loop-path.invariant ∙ ap (fold (added d) c.loop-path.found) rows.0
     ∙ added_rest d next c.loop-path.found (at_row ∷ shown_rows left)
     (each_from path (λ q. stands_in d (file_at q) ≡ true → UpTo next q) (at_row ∷ shown_rows left)
@@ -78,5 +78,5 @@ returns-in-To-clause-next g c =
     let step = subst (IsStep d c.as_str.result.now) c.in-To.is (c.in_ok-step_from.ensures d walk begun) in
     let less : cmp path next ≡ Less = subst (λ (t : List ℕ). cmp t next ≡ Less) c.as_str.ensures.value step.0 in
     let up = UpTo-trans from path next at.0 (UpTo-less path next less) in
-    let behind = rest-behind from next (shown_rows es) (shown_rows front) (shown_rows left) (at_row) rising up rows.1 less in
+    let behind = rest-after from next (shown_rows es) (shown_rows front) (shown_rows left) (at_row) rising up rows.1 less in
     (UpTo-trans c.args.base.now from next c.requires.from up, behind.1)

@@ -2,7 +2,7 @@ use Rattle.std.proofs.Common.{ℕ, true, cond, [], ◌∷◌, ◌++◌, length, 
 use Rattle.std.specs.Map.Iter.{deref_pair}
 use Rattle.std.proofs.lemmas.Map.Iter.{iter_end, rest_so_far}
 use Rattle.std.proofs.lemmas.Str.Pattern.{starts_text}
-use Rattle.mvn_coords.proofs.Cuts.{behind_none}
+use Rattle.mvn_coords.proofs.Cuts.{after_none}
 use Rattle.repo_model.specs.Document.{listed_in}
 use Rattle.repo_model.specs.Purge.{builds_of, snapshot_directory}
 use Rattle.snapshot_purge.specs.Ages.{HaveSameBuilds}
@@ -46,7 +46,7 @@ returns-then-not-starts_with g c =
     let other = sym (starts_text c.starts_with.result start text c.starts_with.ensures.cases) ∙ c.if-not-starts_with.true in
     subst (λ r. HaveSameBuilds c.loop-path.ages (builds_of r))
     (ended d base word walk (shown_rows es) (shown_rows front) (shown_rows left) row (rising-shown es c.range-path-items.ensures.ordered) rows.1
-    (λ x is. behind_none start text x (ap (λ b. cond b (Some (drop (length start) text)) None) other) (c.as_str-text.ensures.value ∙ is ∙ ap (λ t. t ++ x) (sym c.as_str-front.ensures.value))))
+    (λ x is. after_none start text x (ap (λ b. cond b (Some (drop (length start) text)) None) other) (c.as_str-text.ensures.value ∙ is ∙ ap (λ t. t ++ x) (sym c.as_str-front.ensures.value))))
     c.loop-path.invariant
 
 pub returns : goal.returns

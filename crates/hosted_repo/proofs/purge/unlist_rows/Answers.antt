@@ -8,7 +8,7 @@ use Rattle.repo_model.specs.Purge.{due_rows}
 use Rattle.repo_model.specs.Tables.{Tables}
 use Rattle.row_tables.specs.Commits.{tables_with}
 use Rattle.row_tables.specs.Items.{IsChange, are_of}
-use Rattle.row_tables.specs.Stops.{HasCommitStop, IsCommitted}
+use Rattle.row_tables.specs.Crashes.{HasCommitCrash, IsCommitted}
 use Rattle.repo_model.specs.declared.item.Item.{Item}
 use Rattle.row_tables.specs.declared.version.Version.TheVariants.{Second}
 use Rattle.hosted_repo.specs.Fades.{fade_at_paths}
@@ -176,8 +176,8 @@ returns-clause-docs g c =
     ∙ faded_back id c.args.now paths rows rising (due_visible (shown_rule c.args.rule.now) c.args.now rows paths rising c.in_ok-paths.ensures) in
     subst (AreOf docs) (sym back) (same_of c.args.docs.now docs rows c.record_faded.ensures.same c.requires.docs)
 
-pub returns-then-is_empty-clause-stops : goal.returns-then-is_empty-clause-stops
-returns-then-is_empty-clause-stops g c =
+pub returns-then-is_empty-clause-crashes : goal.returns-then-is_empty-clause-crashes
+returns-then-is_empty-clause-crashes g c =
     let zero : length c.in_ok-paths.paths.items ≡ 0 = omega (arith, c.in_ok-paths.paths.ok.0, eqb-true (vec_len c.in_ok-paths.paths) 0 (sym c.is_empty.ensures ∙ c.if-is_empty.true)) in
     inl (
       ap (λ (due : List plain.Row). recorded (faded_at c.args.rule.now.id c.args.now due))
@@ -185,20 +185,20 @@ returns-then-is_empty-clause-stops g c =
       refl,
     )
 
-pub returns-in-Ok-clause-stops : goal.returns-in-Ok-clause-stops
-returns-in-Ok-clause-stops g c =
+pub returns-in-Ok-clause-crashes : goal.returns-in-Ok-clause-crashes
+returns-in-Ok-clause-crashes g c =
     let id = c.args.rule.now.id in
     let due = due_rows (shown_rule c.args.rule.now) c.args.now c.args.rows.now in
     subst
     (λ (items : List Item). IsCommitted items (g.K.Records.tables c.args.records.now) (g.K.Records.unsettled c.args.records.now) (g.K.Records.unsettled c.record_faded.new.records))
     (c.in_ok-change.ensures ∙ ap recorded (ap (fade_at_paths id c.args.now) c.deref.ensures.value ∙ faded id c.args.now c.in_ok-paths.paths.items due c.in_ok-paths.ensures))
-    c.in-Ok.ensures.stops
+    c.in-Ok.ensures.crashes
 
-pub returns-clause-stops : goal.returns-clause-stops
-returns-clause-stops g c =
+pub returns-clause-crashes : goal.returns-clause-crashes
+returns-clause-crashes g c =
     let id = c.args.rule.now.id in
     let due = due_rows (shown_rule c.args.rule.now) c.args.now c.args.rows.now in
     subst
-    (λ (items : List Item). HasCommitStop {T = Unit {0}} items (g.K.Records.tables c.args.records.now) (g.K.Records.unsettled c.args.records.now) (g.K.Records.unsettled c.record_faded.new.records) (Err c.in-Err.fault))
+    (λ (items : List Item). HasCommitCrash {T = Unit {0}} items (g.K.Records.tables c.args.records.now) (g.K.Records.unsettled c.args.records.now) (g.K.Records.unsettled c.record_faded.new.records) (Err c.in-Err.fault))
     (c.in_ok-change.ensures ∙ ap recorded (ap (fade_at_paths id c.args.now) c.deref.ensures.value ∙ faded id c.args.now c.in_ok-paths.paths.items due c.in_ok-paths.ensures))
-    c.in-Err.ensures.stops
+    c.in-Err.ensures.crashes

@@ -13,7 +13,7 @@ head_parts : (answer : Answer) → head_shown answer
 unfolding head_shown
 head_parts answer = refl
 
--- seven pieces, one behind the other
+-- seven pieces, one after the other
 chain : (b0 b1 b2 b3 b4 b5 b6 b7 s t l d a k e : List ℕ) → b1 ≡ b0 ++ s → b2 ≡ b1 ++ t → b3 ≡ b2 ++ l → b4 ≡ b3 ++ d
     → b5 ≡ b4 ++ a → b6 ≡ b5 ++ k → b7 ≡ b6 ++ e → b7 ≡ b0 ++ (s ++ t ++ l ++ d ++ a ++ k ++ e)
 chain b0 b1 b2 b3 b4 b5 b6 b7 s t l d a k e h1 h2 h3 h4 h5 h6 h7 = rw (h7, h6, h5, h4, h3, h2, h1) (simp append_assoc)

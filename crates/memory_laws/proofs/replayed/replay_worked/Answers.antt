@@ -17,7 +17,7 @@ returns c says zero stood =
       given_back = λ port. Some port.given_back;
       faults = λ port. port.script.faults;
       port = λ desk. desk.port;
-      kit = λ desk. record { blobs = store (shelf_of desk.blobs) desk.blobs.script.faults; remote = all_told desk.remote };
+      resources = λ desk. record { blobs = store (shelf_of desk.blobs) desk.blobs.script.faults; remote = all_told desk.remote };
       tells = AllTell (λ held. Some held);
     })
     (λ d. d.port.given_back) (λ d. d.blobs.script.faults) (λ link. link.sink.taken) (λ d. refl) (λ d. refl) (λ link. refl)

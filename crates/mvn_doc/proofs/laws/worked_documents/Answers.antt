@@ -11,6 +11,6 @@ returns c = record {
   sorted = refl;
   no_end = refl;
   other_close_tag = refl;
-  text_behind = refl;
+  text_after = refl;
   document_type = refl;
 }

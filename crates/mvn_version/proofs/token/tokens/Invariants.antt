@@ -2,7 +2,7 @@ use Rattle.std.proofs.Common.{◌≡◌, ◌-◌, ◌≤◌, ◌∷◌, map, rev
 use Rattle.mvn_version.specs.Token.{shown, tokens, dotted}
 use Rattle.mvn_version.proofs.token.tokens.Given as goal
 
--- the open token goes up to `end`, and those behind it are pushed
+-- the open token goes up to `end`, and those after it are pushed
 abbrev pub invariant-loop-i : goal.invariant-loop-i
 invariant-loop-i l = record {
   before_end : l.i ≤ l.end;

@@ -5,13 +5,13 @@ use Rattle.path_patterns.proofs.Splits.{some_segment}
 use Rattle.path_patterns.proofs.Verdicts.{by_end, by_last, by_one, by_run}
 use Rattle.path_patterns.proofs.segments.+segments.Goals as goal
 
-pub match_behind_run-returns-in_default : goal.match_behind_run-returns-in_default
-match_behind_run-returns-in_default t c =
+pub match_after_run-returns-in_default : goal.match_after_run-returns-in_default
+match_after_run-returns-in_default t c =
     by_end (segments_match (segments_left c.args.pattern)) (segments_left c.args.path) (segments_left c.ends.left)
     c.match_segments.result c.ends.invariant c.in_default.not-Differs c.match_segments.ensures
 
-pub match_behind_run-returns-in-None : goal.match_behind_run-returns-in-None
-match_behind_run-returns-in-None t c =
+pub match_after_run-returns-in-None : goal.match_after_run-returns-in-None
+match_after_run-returns-in-None t c =
     by_last (segments_match (segments_left c.args.pattern)) (segments_left c.args.path) (segments_left c.ends.left)
     c.ends.invariant (ap (λ o. length (segments_left o)) c.in-None.is) c.in-Differs.ensures
 
@@ -19,7 +19,7 @@ pub match_segments-returns-then-is_run : goal.match_segments-returns-then-is_run
 match_segments-returns-then-is_run t c =
     rw (c.in-Some.is, c.split_segment.ensures)
     (by_run _ (segment_matches c.split_segment.result.0.now) (segments_match (segments_left c.split_segment.result.1))
-    (segments_left c.args.path) c.match_behind_run.result (sym c.is_run.ensures ∙ c.if-is_run.true) c.match_behind_run.ensures)
+    (segments_left c.args.path) c.match_after_run.result (sym c.is_run.ensures ∙ c.if-is_run.true) c.match_after_run.ensures)
 
 pub match_segments-returns : goal.match_segments-returns
 match_segments-returns t c =

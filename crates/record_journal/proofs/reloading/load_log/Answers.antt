@@ -4,7 +4,7 @@ use Rattle.std.specs.Prelude.{IfSome, Some}
 use Rattle.record_disk.specs.Disk.{Told, IsDurable}
 use Rattle.record_log.specs.Frames.{frames, gate_of, end_of, EndsAt, HoldsFrames}
 use Rattle.record_log.specs.Log.{HasAcknowledged, LogState}
-use Rattle.record_log.proofs.Mending.{behind_magic}
+use Rattle.record_log.proofs.Mending.{after_magic}
 use Rattle.record_journal.specs.Given.{Loads}
 use Rattle.row_tables.specs.Loading.{loading}
 use Rattle.record_journal.proofs.Reloaded.{Mending, loads_too, refused_left, reload_crash, reload_tables, reload_ready, reload_recovers, still_sync, still_mended, had_bytes, gate_had}
@@ -39,7 +39,7 @@ returns-in-Ok-mend-clause-ready g c =
     let loads : loading c.in-Ok.bytes.items ≡ Ok c.in_ok-tables.tables = ap loading (sym c.deref.ensures.value) ∙ c.in_ok-tables.ensures.loads in
     reload_ready c.args.log.now c.synced_bytes.new.log c.mend.new.self c.in-Ok.bytes.items c.in_ok-tables.tables loads c.in-Ok.ensures.undone c.mend.ensures.done c.in-Ok.ensures.durable
     (subst (λ l. Told c.synced_bytes.new.log.trace c.mend.new.self.trace (Mending l)) c.deref-2.ensures.value c.mend.ensures.moments)
-    (subst (λ g. 8 ≤ g) (sym c.in-Ok-mend.ensures.gate) (behind_magic (frames c.deref-2.result.now)))
+    (subst (λ g. 8 ≤ g) (sym c.in-Ok-mend.ensures.gate) (after_magic (frames c.deref-2.result.now)))
     (subst (λ l. IfSome c.synced_bytes.new.log.trace (λ s. IsDurable l s → (ps : List (List ℕ)) → HoldsFrames ps l → HasAcknowledged ps c.mend.new.self)) c.deref-2.ensures.value c.in-Ok-mend.ensures.ok)
 
 pub returns-in-Ok-mend-clause-same : goal.returns-in-Ok-mend-clause-same

@@ -3,7 +3,7 @@ use Rattle.remote_fetch.specs.declared.replies.Reply.{Reply}
 use Rattle.remote_fetch.specs.Replies.{IsChunked}
 use Rattle.remote_fetch.proofs.replies.chunked.Given as goal
 
--- what the chunks from here on come to behind the ones so far, all come to
+-- what the chunks from here on come to after the ones so far, all come to
 abbrev pub invariant-loop-given : goal.invariant-loop-given
 invariant-loop-given l =
     (l.at ≤ length l.bytes) × (length l.body.items ≤ l.limit)

@@ -12,7 +12,7 @@ use Rattle.repo_core.specs.Start.{Starts}
 use Rattle.repo_core.specs.Stock.{state_of}
 use Rattle.repo_core.specs.Whole.{Whole, counting}
 use Rattle.repo_core.proofs.StartLemmas.{complete-then, damage-then, digested-so, empty-stays, starts-counted, starts-kept, starts-last, starts-opening, starts-proxy-rules, starts-rules, starts-staged, starts-told, told-then}
-use Rattle.row_tables.specs.Stops.{Rests}
+use Rattle.row_tables.specs.Crashes.{Rests}
 use Rattle.repo_core.proofs.starting.start.Goals as goal
 
 pub of-requires-clause-moment : goal.of-requires-clause-moment

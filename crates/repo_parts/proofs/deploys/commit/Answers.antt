@@ -16,7 +16,7 @@ use Rattle.repo_model.specs.Turn.{Turn, says}
 use Rattle.row_tables.specs.Commits.{tables_with}
 use Rattle.repo_parts.specs.Deploys.{commit_in, hosted_after_all}
 use Rattle.repo_parts.proofs.EndTurns.{commit-ending, commit-none, commit-same, placed, quiet}
-use Rattle.row_tables.specs.Stops.{HasReplyStop}
+use Rattle.row_tables.specs.Crashes.{HasReplyCrash}
 use Rattle.repo_parts.proofs.deploys.commit.Goals as goal
 
 abbrev opened : ℕ → List ℕ → List Staged → Session
@@ -36,7 +36,7 @@ returns-in_default-opened g c =
       blobs = ap (λ (t : Turn). flat_map garbage_by t.effects) (sym idle);
       tables = quiet told ∙ ap (λ (t : Turn). tables_with (recorded t.effects) told) (sym idle);
       cause = refl;
-      stops = inl (ap (λ (t : Turn). recorded t.effects) idle, refl);
+      crashes = inl (ap (λ (t : Turn). recorded t.effects) idle, refl);
       ready = c.requires.ready;
     }
 
@@ -86,6 +86,6 @@ returns g c =
       blobs = subst (λ (t : Turn). blobs_over c.commit.result ≡ (if is_free r then [] else flat_map garbage_by t.effects)) same did.blobs;
       tables = subst (λ (t : Turn). g.K.Records.tables c.commit.new.records ≡ (if is_free r then told else tables_with (recorded t.effects) told)) same did.tables;
       cause = did.cause;
-      stops = subst (λ (t : Turn). HasReplyStop (recorded t.effects) told was (g.K.Records.unsettled c.commit.new.records) r) same did.stops;
+      crashes = subst (λ (t : Turn). HasReplyCrash (recorded t.effects) told was (g.K.Records.unsettled c.commit.new.records) r) same did.crashes;
       ready = did.ready;
     }

@@ -11,7 +11,7 @@ use Rattle.proxy_rules.specs.Landings.{has_failed, proxy_after_all, shown_landed
 use Rattle.repo_restart.proofs.PlaceLemmas.{changed-at, files-at}
 use Rattle.repo_parts.specs.Proxies.{LandsIn, proxies_after_all}
 use Rattle.repo_parts.proofs.PlacedLemmas.{landing-here, named-so, none-there, set-itself}
-use Rattle.row_tables.specs.Stops.{HasReplyStop}
+use Rattle.row_tables.specs.Crashes.{HasReplyCrash}
 use Rattle.repo_parts.proofs.proxies.land.Goals as goal
 
 pub land-requires-clause-proxy : goal.land-requires-clause-proxy
@@ -59,8 +59,8 @@ unreachable-requires g c =
     let none : position (is_proxy c.args.plan.now.proxy) items ≡ None = rw (c.as_str.ensures, c.deref.ensures.value) at (sym c.in-None.ensures) in
     none-there (is_proxy c.args.plan.now.proxy) items c.requires.there none
 
-pub returns-clause-stops : goal.returns-clause-stops
-returns-clause-stops g c =
+pub returns-clause-crashes : goal.returns-clause-crashes
+returns-clause-crashes g c =
     let items = c.args.proxies.now.items in
     let plan = c.args.plan.now in
     let landing = outcome_map shown_got c.args.outcome in
@@ -68,5 +68,5 @@ returns-clause-stops g c =
     let there : position (is_proxy plan.proxy) items ≡ Some c.in-Some.place = rw (c.as_str.ensures, c.deref.ensures.value) at (sym c.in-Some.ensures) in
     let files = files-at plan.proxy items c.in-Some.place p there c.index_mut.ensures.value in
     subst
-    (λ (rows : List Row). HasReplyStop (recorded (lands_by rows c.args.moment plan landing)) (g.K.Records.tables c.args.records.now) (g.K.Records.unsettled c.args.records.now) (g.K.Records.unsettled c.land.new.records) (shown_landed c.land.result))
-    (sym files) c.land.ensures.stops
+    (λ (rows : List Row). HasReplyCrash (recorded (lands_by rows c.args.moment plan landing)) (g.K.Records.tables c.args.records.now) (g.K.Records.unsettled c.args.records.now) (g.K.Records.unsettled c.land.new.records) (shown_landed c.land.result))
+    (sym files) c.land.ensures.crashes

@@ -1,4 +1,4 @@
--- The copy of the settings is started by; or memory was wanting for it.
+-- The copy of the settings is started by; or memory ran out for it.
 use Rattle.std.proofs.Common.{subst, sym}
 use Rattle.repo_config.specs.Form.{IsSettings}
 use Rattle.repo_model.specs.Settings.{Settings}

@@ -6,8 +6,8 @@ use Rattle.repo_course.specs.Serving.{AllTell}
 use Rattle.run_desks.specs.Seen.{store_seen}
 use Rattle.repo_run.specs.declared.tally.Tally.{Tally}
 use Rattle.repo_run.specs.Demo.{Answer}
-use Rattle.repo_run.specs.DemoSteps.{Shows, counted, kit, whole}
-use Rattle.repo_run.proofs.Shown.{cut-short, none-shown, number-behind, one-more}
+use Rattle.repo_run.specs.DemoSteps.{Shows, counted, resources, whole}
+use Rattle.repo_run.proofs.Shown.{cut-short, none-shown, number-after, one-more}
 use Rattle.repo_run.proofs.Tallies.{counted-push, more-below, none-push}
 use Rattle.repo_run.proofs.demo.answer_all.Goals as goal
 
@@ -19,7 +19,7 @@ loop-answered-init g c = record {
   small = (omega arith, omega arith, omega arith);
   shown = (
     [],
-    none-shown c.args.settings.now (AllTell g.B.Held.Held.bytes) c.args.from c.args.core.now (kit (store_seen g.B.Blobs c.args.blobs.now) (g.R.Remote.sees c.args.remote.now)),
+    none-shown c.args.settings.now (AllTell g.B.Held.Held.bytes) c.args.from c.args.core.now (resources (store_seen g.B.Blobs c.args.blobs.now) (g.R.Remote.sees c.args.remote.now)),
     refl,
     (refl, tt),
   );
@@ -36,7 +36,7 @@ loop-answered-preserved g c =
     let counts = c.counted-tally.ensures ∙ ap (λ (b : List ℕ). counted b tally) c.bytes.ensures in
     record {
       settings = c.in_ok-answer.ensures.settings ∙ i.settings;
-      number = number-behind c.args.from c.loop-answered.answered c.next_number-number.result is;
+      number = number-after c.args.from c.loop-answered.answered c.next_number-number.result is;
       below = c.next_number-number.ensures.range;
       small = subst (λ (t : Tally). (t.ok ≤ more) × (t.created ≤ more) × (t.missing ≤ more)) (sym counts)
           (more-below _ _ _ i.small.0, more-below _ _ _ i.small.1, more-below _ _ _ i.small.2);
@@ -61,8 +61,8 @@ pub returns : goal.returns
 returns g c =
     let i = c.loop-answered.invariant in
     let all : c.loop-answered.answered ≡ c.args.requests = omega arith in
-    let first = kit (store_seen g.B.Blobs c.args.blobs.now) (g.R.Remote.sees c.args.remote.now) in
-    let last = kit (store_seen g.B.Blobs c.loop-answered.blobs) (g.R.Remote.sees c.loop-answered.remote) in (
+    let first = resources (store_seen g.B.Blobs c.args.blobs.now) (g.R.Remote.sees c.args.remote.now) in
+    let last = resources (store_seen g.B.Blobs c.loop-answered.blobs) (g.R.Remote.sees c.loop-answered.remote) in (
       i.shown.0,
       subst (λ (n : ℕ). Shows c.args.settings.now (AllTell g.B.Held.Held.bytes) c.args.from n c.args.core.now c.loop-answered.core first last i.shown.0) all i.shown.1,
       i.shown.2,

@@ -3,7 +3,7 @@ use Rattle.std.proofs.Common.{Some, [], refl, subst}
 use Rattle.outside.specs.Told.{in_front}
 use Rattle.repo_course.specs.Serving.{AllTell, ServesStream}
 use Rattle.run_desks.specs.Seen.{store_seen}
-use Rattle.repo_run.specs.DemoSteps.{kit}
+use Rattle.repo_run.specs.DemoSteps.{resources}
 use Rattle.repo_run.specs.Surroundings.{Connection, outside_at, outside_with, served}
 use Rattle.repo_run.proofs.demo.answer_to.Goals as goal
 
@@ -11,8 +11,8 @@ pub returns-clause-ok : goal.returns-clause-ok
 returns-clause-ok g c =
     let s = c.serve_stream-ending.ensures.serves in
     let link = c.serve_stream-ending.new.stream in
-    let before = kit (store_seen g.B.Blobs c.args.blobs.now) (g.R.Remote.sees c.args.remote.now) in
-    let after = kit (store_seen g.B.Blobs c.serve_stream-ending.new.blobs) (g.R.Remote.sees c.serve_stream-ending.new.remote) in
+    let before = resources (store_seen g.B.Blobs c.args.blobs.now) (g.R.Remote.sees c.args.remote.now) in
+    let after = resources (store_seen g.B.Blobs c.serve_stream-ending.new.blobs) (g.R.Remote.sees c.serve_stream-ending.new.remote) in
     let connection : Connection = record { left = Some link.source.left; taken = Some link.sink.taken; read_faults = link.source.script.faults; write_faults = link.sink.script.faults } in (
       s.1,
       s.2,

@@ -5,7 +5,7 @@ use Rattle.repo_model.specs.Settings.{Settings}
 use Rattle.run_desks.specs.Seen.{store_seen}
 use Rattle.repo_run.specs.Begun.{Begins}
 use Rattle.repo_run.specs.Demo.{not_started}
-use Rattle.repo_run.specs.DemoSteps.{ShowsAll, kit}
+use Rattle.repo_run.specs.DemoSteps.{ShowsAll, resources}
 use Rattle.repo_run.specs.Surroundings.{records_seen}
 use Rattle.repo_core.specs.declared.faults.StartFault.TheVariants as start
 use Rattle.repo_run.proofs.Demonstrated.{demonstrated}
@@ -24,8 +24,8 @@ returns-in-Err-begin g c source source' =
 pub returns : goal.returns
 returns g c source source' =
     let cleared = store_seen g.B.Blobs c.begin.new.blobs in
-    let first = kit cleared (g.R.Remote.sees c.args.desk.now.remote) in
-    let kept = kit (store_seen g.B.Blobs c.answer_all-shown.new.blobs) (g.R.Remote.sees c.answer_all-shown.new.remote) in
+    let first = resources cleared (g.R.Remote.sees c.args.desk.now.remote) in
+    let kept = resources (store_seen g.B.Blobs c.answer_all-shown.new.blobs) (g.R.Remote.sees c.answer_all-shown.new.remote) in
     let small : c.args.requests < 2 ^ 32 = omega arith in
     let begins = subst (λ (s : Settings). Begins s (records_seen g.K.Records c.args.records) (store_seen g.B.Blobs c.args.desk.now.blobs) cleared (g.C.Clock.moments c.args.clock) c.in-Ok-begin.core)
     c.in-Ok.ensures c.in-Ok-begin.ensures.ok in

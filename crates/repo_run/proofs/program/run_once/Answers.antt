@@ -1,4 +1,4 @@
--- The words are carried out with the first desk, or memory was wanting to read them.
+-- The words are carried out with the first desk, or memory ran out to read them.
 use Rattle.std.proofs.Common.{ℕ, ◌<◌, subst, ap}
 use Rattle.run_desks.specs.Seen.{looks}
 use Rattle.repo_run.specs.declared.actions.Wanted.{Wanted}

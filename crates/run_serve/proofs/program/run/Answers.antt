@@ -1,4 +1,4 @@
--- A server serves; or memory was wanting for the words, and nothing was done.
+-- A server serves; or memory ran out for the words, and nothing was done.
 use Rattle.std.proofs.Common.{ℕ, ◌<◌, ◌∙◌, ap, refl, subst, sym}
 use Rattle.run_desks.specs.Seen.{looks}
 use Rattle.repo_run.specs.declared.actions.Wanted.{Wanted}

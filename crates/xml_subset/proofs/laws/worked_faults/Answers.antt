@@ -7,7 +7,7 @@ unfolding first_token
 returns c = record {
   no_end = refl;
   other_close_tag = refl;
-  text_behind = refl;
+  text_after = refl;
   document_type = refl;
   character_0 = refl;
   section = refl;

@@ -9,10 +9,10 @@ use Rattle.repo_model.specs.Turn.{Turn}
 use Rattle.deploy_session.specs.Known.{Known, IsSound, abort_turn, garbage_by, known_after}
 use Rattle.row_tables.specs.Commits.{tables_with}
 use Rattle.repo_model.specs.Tables.{Tables}
-use Rattle.row_tables.specs.Stops.{HasCommitStop, HasReplyStop, IsCommitted, Unsettled}
+use Rattle.row_tables.specs.Crashes.{HasCommitCrash, HasReplyCrash, IsCommitted, Unsettled}
 use Rattle.deploy_session.specs.Recording.{FitWhereTold}
 use Rattle.deploy_session.specs.Shown.{shown_files, shown_session, shown_sessions}
-use Rattle.deploy_session.proofs.StopLaws.{failed-stop}
+use Rattle.deploy_session.proofs.CrashLaws.{failed-crash}
 use Rattle.deploy_session.proofs.SessionLaws.{abort_so, aborted, garbage_aborted, gone, next_aborted, number_range, open_of_session, recorded_aborted, sound_fewer}
 use Rattle.deploy_session.proofs.sessions.Sessions.abort.Goals as goal
 
@@ -99,8 +99,8 @@ returns-clause-tables g c =
     ∙ sym (ap (λ (items : List Item). tables_with items told) (recorded_aborted n Aborted files))
     ∙ sym (ap (λ (t : Turn). tables_with (recorded t.effects) told) so)
 
-pub returns-clause-stops : goal.returns-clause-stops
-returns-clause-stops g c =
+pub returns-clause-crashes : goal.returns-clause-crashes
+returns-clause-crashes g c =
     let n = c.args.session in
     let y = c.self.inside in
     let files = shown_files c.in-Some.found.now.files.entries in
@@ -108,10 +108,10 @@ returns-clause-stops g c =
     let so : abort_turn c.args.self.now n ≡ gone n files =
     ap (λ (h : Known). abort_turn h n) (sym c.self.view_is) ∙ abort_so k n (shown_session (n, c.in-Some.found.now)) (sym c.in-Some.ensures) c.in_default-ended.is refl in
     subst (λ (items : List Item). IsCommitted items (g.K.Records.tables c.args.records.now) (g.K.Records.unsettled c.args.records.now) (g.K.Records.unsettled c.give_up.new.records))
-    (sym (ap (λ (t : Turn). recorded t.effects) so ∙ recorded_aborted n Aborted files)) c.in_default-give_up.ensures.stops
+    (sym (ap (λ (t : Turn). recorded t.effects) so ∙ recorded_aborted n Aborted files)) c.in_default-give_up.ensures.crashes
 
-pub returns-in-Err-clause-stops : goal.returns-in-Err-clause-stops
-returns-in-Err-clause-stops g c =
+pub returns-in-Err-clause-crashes : goal.returns-in-Err-clause-crashes
+returns-in-Err-clause-crashes g c =
     let n = c.args.session in
     let y = c.self.inside in
     let files = shown_files c.in-Some.found.now.files.entries in
@@ -122,6 +122,6 @@ returns-in-Err-clause-stops g c =
     let due : List Item = recorded (abort_turn c.args.self.now n).effects in
     let so : abort_turn c.args.self.now n ≡ gone n files =
     ap (λ (h : Known). abort_turn h n) (sym c.self.view_is) ∙ abort_so k n (shown_session (n, c.in-Some.found.now)) (sym c.in-Some.ensures) c.in_default-ended.is refl in
-    subst (HasReplyStop due told before behind) (sym c.failed.ensures.reply)
-    (failed-stop told before behind due c.in-Err.fault
-    (subst (λ (items : List Item). HasCommitStop {T = Unit {0}} items told before behind (Err c.in-Err.fault)) (sym (ap (λ (t : Turn). recorded t.effects) so ∙ recorded_aborted n Aborted files)) c.in-Err.ensures.stops))
+    subst (HasReplyCrash due told before behind) (sym c.failed.ensures.reply)
+    (failed-crash told before behind due c.in-Err.fault
+    (subst (λ (items : List Item). HasCommitCrash {T = Unit {0}} items told before behind (Err c.in-Err.fault)) (sym (ap (λ (t : Turn). recorded t.effects) so ∙ recorded_aborted n Aborted files)) c.in-Err.ensures.crashes))

@@ -13,7 +13,7 @@ use Rattle.repo_model.specs.Reply.{is_free}
 use Rattle.repo_model.specs.State.{change_first, is_open_at, most_staged}
 use Rattle.repo_model.specs.Turn.{Turn, commit_by}
 use Rattle.row_tables.specs.Commits.{tables_with}
-use Rattle.row_tables.specs.Stops.{HasReplyStop, IsCommitted}
+use Rattle.row_tables.specs.Crashes.{HasReplyCrash, IsCommitted}
 use Rattle.repo_model.specs.Tables.{Tables}
 use Rattle.hosted_delivery.specs.Deliveries.{deliveries, is_done, session_with}
 use Rattle.ordered_rows.specs.Rows.{rows_after_all}
@@ -21,7 +21,7 @@ use Rattle.deploy_session.specs.Known.{Known, IsSound, commit_turn, garbage_by, 
 use Rattle.deploy_session.specs.Recording.{FitWhereTold, HasReplyCause}
 use Rattle.deploy_session.specs.Shown.{shown_commit, shown_file, shown_session, shown_sessions}
 use Rattle.deploy_session.proofs.CommitLaws.{blobs-ended, done-clear, done-effects, due-reply, end-formed, fault-of, items-ended, next-ended, not-empty, quiet, recordable-there, refused-quiet, reply-alike, rows-ended, sessions-ended, told_same, turn-of}
-use Rattle.deploy_session.proofs.StopLaws.{refused-stop}
+use Rattle.deploy_session.proofs.CrashLaws.{refused-crash}
 use Rattle.deploy_session.proofs.SessionLaws.{number_range, open_of_session, sound_fewer}
 use Rattle.deploy_session.proofs.sessions.Sessions.commit.Goals as goal
 
@@ -156,8 +156,8 @@ returns-in-Done-clause-tables g c =
     (ap recorded (done-effects c.args.self.now k n now h.rows one c.self.view_is (sym c.in-Some.ensures) c.in_default-ended.is clear.0 clear.1)
     ∙ items-ended one h.rule.id same now h.rows (Done (length one.staged))))
 
-pub returns-in-Done-clause-stops : goal.returns-in-Done-clause-stops
-returns-in-Done-clause-stops g c =
+pub returns-in-Done-clause-crashes : goal.returns-in-Done-clause-crashes
+returns-in-Done-clause-crashes g c =
     let n = c.args.session in
     let now = c.args.now in
     let y = c.self.inside in
@@ -174,7 +174,7 @@ returns-in-Done-clause-stops g c =
     (ap (λ m. recorded (deliveries h one.staged now) ++ SessionEnded n (Done m) ∷ []) count
     ∙ sym (ap recorded (done-effects c.args.self.now k n now h.rows one c.self.view_is (sym c.in-Some.ensures) c.in_default-ended.is clear.0 clear.1)
     ∙ items-ended one h.rule.id same now h.rows (Done (length one.staged))))
-    c.in-Done.ensures.stops
+    c.in-Done.ensures.crashes
 
 pub returns-in_default-put_all : goal.returns-in_default-put_all
 returns-in_default-put_all g c =
@@ -223,8 +223,8 @@ returns-in_default-put_all g c =
           ∙ quiet (is_free (shown_commit c.refused.result)) told (tables_with (recorded (commit_turn self n now h.rows).effects) told)
           (λ not. ap (λ (es : List Effect). tables_with (recorded es) told) (none not) ∙ sym (told_same told));
       cause = subst (HasReplyCause (g.K.Records.faults c.args.records.now) (g.K.Records.faults c.put_all.new.records)) (sym c.refused.ensures.reply) c.put_all.ensures.cause;
-      stops = subst (HasReplyStop (recorded (commit_turn self n now h.rows).effects) told (g.K.Records.unsettled c.args.records.now) (g.K.Records.unsettled c.put_all.new.records)) (sym c.refused.ensures.reply)
-          (refused-stop told (g.K.Records.unsettled c.args.records.now) (g.K.Records.unsettled c.put_all.new.records) (recorded (deliveries h one.staged now) ++ SessionEnded n (Done c.len.result) ∷ []) (recorded (commit_turn self n now h.rows).effects) answer refused c.put_all.ensures.stops
+      crashes = subst (HasReplyCrash (recorded (commit_turn self n now h.rows).effects) told (g.K.Records.unsettled c.args.records.now) (g.K.Records.unsettled c.put_all.new.records)) (sym c.refused.ensures.reply)
+          (refused-crash told (g.K.Records.unsettled c.args.records.now) (g.K.Records.unsettled c.put_all.new.records) (recorded (deliveries h one.staged now) ++ SessionEnded n (Done c.len.result) ∷ []) (recorded (commit_turn self n now h.rows).effects) answer refused c.put_all.ensures.crashes
           (λ not. ap recorded (none (ap is_free c.refused.ensures.reply ∙ not)))
           (λ failed.
           let clear = c.put_all.ensures.asked failed in

@@ -6,7 +6,7 @@ use Rattle.repo_model.specs.Effect.{recorded}
 use Rattle.repo_model.specs.Purge.{due_rows, fade_all}
 use Rattle.repo_model.specs.Turn.{seen_at}
 use Rattle.row_tables.specs.Commits.{tables_with}
-use Rattle.row_tables.specs.Stops.{HasCommitStop}
+use Rattle.row_tables.specs.Crashes.{HasCommitCrash}
 use Rattle.ordered_rows.specs.Recording.{FitWhereTold}
 use Rattle.hosted_repo.specs.Releases.{AllFadeRightly}
 use Rattle.ordered_rows.specs.Rows.{AreFiles, rows_after_all}
@@ -73,8 +73,8 @@ returns-clause-answered g c path other =
     (λ same. ap (λ rows. seen_at rows path (kind path)) same)
     ∙ ap (λ (k : plain.Hosted). seen_at k.rows path (kind path)) c.self.view_is
 
-pub returns-clause-stops : goal.returns-clause-stops
-returns-clause-stops g c =
+pub returns-clause-crashes : goal.returns-clause-crashes
+returns-clause-crashes g c =
     subst
-    (λ (k : plain.Hosted). HasCommitStop (recorded (fade_all k c.args.now)) (g.K.Records.tables c.args.records.now) (g.K.Records.unsettled c.args.records.now) (g.K.Records.unsettled c.unlist_rows.new.records) c.unlist_rows.result)
-    c.self.view_is c.unlist_rows.ensures.stops
+    (λ (k : plain.Hosted). HasCommitCrash (recorded (fade_all k c.args.now)) (g.K.Records.tables c.args.records.now) (g.K.Records.unsettled c.args.records.now) (g.K.Records.unsettled c.unlist_rows.new.records) c.unlist_rows.result)
+    c.self.view_is c.unlist_rows.ensures.crashes

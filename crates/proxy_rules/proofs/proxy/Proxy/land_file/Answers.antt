@@ -48,6 +48,6 @@ invariant_of-self-2 g c =
       files = from-either c.keep_file.result c.keep_file.ensures.ok c.keep_file.ensures.err
           (λ made. subst AreFiles (sym made) (each-with IsFileRow new old named c.self.invariant.files))
           (λ same. subst AreFiles (sym same) c.self.invariant.files);
-      few = omega (arith, c.unmark-2.ensures.few, c.self.invariant.few);
-      timely = c.unmark-2.ensures.timely c.self.invariant.timely;
+      few = omega (arith, c.remove_negative-2.ensures.few, c.self.invariant.few);
+      timely = c.remove_negative-2.ensures.timely c.self.invariant.timely;
     }

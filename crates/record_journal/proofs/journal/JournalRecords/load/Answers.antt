@@ -1,4 +1,4 @@
-use Rattle.record_journal.proofs.Stops.{may_commit_if}
+use Rattle.record_journal.proofs.Crashes.{may_commit_if}
 use Rattle.record_journal.proofs.journal.JournalRecords.load.Goals as goal
 
 pub returns-clause-ready : goal.returns-clause-ready

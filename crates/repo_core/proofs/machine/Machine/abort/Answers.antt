@@ -91,5 +91,5 @@ returns-clause-turn g c =
     (recorded-by w new (abort n) t r (g.K.Records.tables c.args.records.now) (g.K.Records.tables c.abort-did.new.records) (g.K.Records.faults c.args.records.now) (g.K.Records.faults c.abort-did.new.records)
     refl refl (recorded-given t r c.abort-did.ensures.reply) refl refl left c.abort-did.ensures.tables c.abort-did.ensures.cause)
 
-pub returns-clause-stops : goal.returns-clause-stops
-returns-clause-stops g c = rw (← c.self.view_is) c.abort-did.ensures.stops
+pub returns-clause-crashes : goal.returns-clause-crashes
+returns-clause-crashes g c = rw (← c.self.view_is) c.abort-did.ensures.crashes

@@ -8,7 +8,7 @@ use Rattle.repo_model.specs.Shown.{outcome_map, shown_command, shown_got, shown_
 use Rattle.repo_model.specs.Turn.{turn}
 use Rattle.repo_core.specs.Turn.{IsSettled, Recorded}
 use Rattle.repo_core.proofs.DeployTurns.{may_stage-quiet, note-quiet, stage-quiet, stage_side-quiet}
-use Rattle.row_tables.specs.Stops.{HasReplyStop}
+use Rattle.row_tables.specs.Crashes.{HasReplyCrash}
 use Rattle.repo_core.proofs.Turning.{alone, look-quiet, may_put-quiet, put_side-quiet}
 use Rattle.repo_core.proofs.machine.Machine.answer.Goals as goal
 
@@ -22,7 +22,7 @@ returns-in-MayPut g c =
     let did =
     alone w c.may_stage.new.self (may_put (session n) path) (shown_command c.args.command) (shown_reply c.may_stage.result) (g.K.Records.tables c.args.records.now) (g.K.Records.faults c.args.records.now) (g.K.Records.unsettled c.args.records.now)
     asked (may_stage-quiet w n path) tt c.may_stage.ensures in
-    record { turn = did.0; settled = did.1; stops = did.2; ready = c.requires.ready }
+    record { turn = did.0; settled = did.1; crashes = did.2; ready = c.requires.ready }
 
 pub returns-in-PutSide : goal.returns-in-PutSide
 returns-in-PutSide g c =
@@ -35,7 +35,7 @@ returns-in-PutSide g c =
     let did =
     alone w c.stage_side.new.self (put_side (session n) path said) (shown_command c.args.command) (shown_reply c.stage_side.result) (g.K.Records.tables c.args.records.now) (g.K.Records.faults c.args.records.now) (g.K.Records.unsettled c.args.records.now)
     asked (stage_side-quiet w n path said) tt c.stage_side.ensures in
-    record { turn = did.0; settled = did.1; stops = did.2; ready = c.requires.ready }
+    record { turn = did.0; settled = did.1; crashes = did.2; ready = c.requires.ready }
 
 pub returns-in-PutDoc : goal.returns-in-PutDoc
 returns-in-PutDoc g c =
@@ -47,7 +47,7 @@ returns-in-PutDoc g c =
     let did =
     alone w c.note.new.self (put_doc (session n) path) (shown_command c.args.command) (shown_reply c.note.result) (g.K.Records.tables c.args.records.now) (g.K.Records.faults c.args.records.now) (g.K.Records.unsettled c.args.records.now)
     asked (note-quiet w n path) tt c.note.ensures in
-    record { turn = did.0; settled = did.1; stops = did.2; ready = c.requires.ready }
+    record { turn = did.0; settled = did.1; crashes = did.2; ready = c.requires.ready }
 
 pub returns-in-Stage : goal.returns-in-Stage
 returns-in-Stage g c =
@@ -60,7 +60,7 @@ returns-in-Stage g c =
     let did =
     alone w c.stage.new.self (stage n path draft blob) (shown_command c.args.command) (shown_reply c.stage.result) (g.K.Records.tables c.args.records.now) (g.K.Records.faults c.args.records.now) (g.K.Records.unsettled c.args.records.now)
     asked (stage-quiet w n path draft blob) tt c.stage.ensures in
-    record { turn = did.0; settled = did.1; stops = did.2; ready = c.requires.ready }
+    record { turn = did.0; settled = did.1; crashes = did.2; ready = c.requires.ready }
 
 pub returns-in-Look : goal.returns-in-Look
 returns-in-Look g c =
@@ -74,7 +74,7 @@ returns-in-Look g c =
     let did =
     alone w c.look.new.self (look repo path tried) (shown_command c.args.command) (shown_reply c.look.result) (g.K.Records.tables c.args.records.now) (g.K.Records.faults c.args.records.now) (g.K.Records.unsettled c.args.records.now)
     asked (look-quiet w repo path tried) tt c.look.ensures in
-    record { turn = did.0; settled = did.1; stops = did.2; ready = c.requires.ready }
+    record { turn = did.0; settled = did.1; crashes = did.2; ready = c.requires.ready }
 
 pub returns-in-Repository : goal.returns-in-Repository
 returns-in-Repository g c =
@@ -87,7 +87,7 @@ returns-in-Repository g c =
     let did =
     alone w c.may_put.new.self (may_put (repository repo) path) (shown_command c.args.command) (shown_reply c.may_put.result) (g.K.Records.tables c.args.records.now) (g.K.Records.faults c.args.records.now) (g.K.Records.unsettled c.args.records.now)
     asked (may_put-quiet w repo path) tt c.may_put.ensures in
-    record { turn = did.0; settled = did.1; stops = did.2; ready = c.requires.ready }
+    record { turn = did.0; settled = did.1; crashes = did.2; ready = c.requires.ready }
 
 pub returns-in-Repository-place : goal.returns-in-Repository-place
 returns-in-Repository-place g c =
@@ -101,7 +101,7 @@ returns-in-Repository-place g c =
     let did =
     alone w c.put_side.new.self (put_side (repository repo) path said) (shown_command c.args.command) (shown_reply c.put_side.result) (g.K.Records.tables c.args.records.now) (g.K.Records.faults c.args.records.now) (g.K.Records.unsettled c.args.records.now)
     asked (put_side-quiet w repo path said) tt c.put_side.ensures in
-    record { turn = did.0; settled = did.1; stops = did.2; ready = c.requires.ready }
+    record { turn = did.0; settled = did.1; crashes = did.2; ready = c.requires.ready }
 
 pub put-requires-clause-items : goal.put-requires-clause-items
 put-requires-clause-items g c =
@@ -147,7 +147,7 @@ returns-in-Put g c =
     record {
       turn = subst (λ q. Recorded w c.put.new.self q reply told told' (g.K.Records.faults c.args.records.now) (g.K.Records.faults c.put.new.records)) asked c.put.ensures.turn;
       settled = subst (λ q. IsSettled q reply now) asked tt;
-      stops = subst (λ q. HasReplyStop (recorded (turn w.settings w.state w.state.last q).effects) told (g.K.Records.unsettled c.args.records.now) now reply) asked c.put.ensures.stops;
+      crashes = subst (λ q. HasReplyCrash (recorded (turn w.settings w.state w.state.last q).effects) told (g.K.Records.unsettled c.args.records.now) now reply) asked c.put.ensures.crashes;
       ready = c.put.ensures.ready;
     }
 
@@ -162,6 +162,6 @@ returns g c =
     record {
       turn = subst (λ q. Recorded w c.land.new.self q reply told told' (g.K.Records.faults c.args.records.now) (g.K.Records.faults c.land.new.records)) asked c.land.ensures.turn;
       settled = subst (λ q. IsSettled q reply now) asked tt;
-      stops = subst (λ q. HasReplyStop (recorded (turn w.settings w.state w.state.last q).effects) told (g.K.Records.unsettled c.args.records.now) now reply) asked c.land.ensures.stops;
+      crashes = subst (λ q. HasReplyCrash (recorded (turn w.settings w.state w.state.last q).effects) told (g.K.Records.unsettled c.args.records.now) now reply) asked c.land.ensures.crashes;
       ready = c.land.ensures.ready;
     }

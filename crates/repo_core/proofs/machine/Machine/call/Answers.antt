@@ -1,7 +1,7 @@
 use Rattle.repo_model.specs.History.{MomentFits}
 use Rattle.repo_model.specs.Shown.{shown_command, shown_reply}
 use Rattle.repo_core.specs.Whole.{Parts}
-use Rattle.repo_core.proofs.Turning.{begun-fit, moment-given, ticked-orderly, turned-fits, turned-after, turned-stop, turned-tables}
+use Rattle.repo_core.proofs.Turning.{begun-fit, moment-given, ticked-orderly, turned-fits, turned-after, turned-crash, turned-tables}
 use Rattle.repo_core.proofs.machine.Machine.call.Goals as goal
 
 pub answer-requires-clause-orderly : goal.answer-requires-clause-orderly
@@ -43,9 +43,9 @@ returns-clause-tables g c =
     let read = c.next_moment-self-inside.ensures in
     turned-tables w _ c.answer.new.self moment (shown_command c.args.command) (shown_reply c.answer.result) _ _ _ _ c.answer.ensures.turn (rw (← c.self.view_is)) (rw (← c.self.view_is, read.clock))
 
-pub returns-clause-stops : goal.returns-clause-stops
-returns-clause-stops g c =
+pub returns-clause-crashes : goal.returns-clause-crashes
+returns-clause-crashes g c =
     let w = c.args.self.now in
     let moment = c.next_moment-self-inside.result in
     let read = c.next_moment-self-inside.ensures in
-    turned-stop w _ c.answer.new.self moment (shown_command c.args.command) (shown_reply c.answer.result) _ _ _ _ c.answer.ensures.turn (rw (← c.self.view_is)) (rw (← c.self.view_is, read.clock)) _ _ c.answer.ensures.stops
+    turned-crash w _ c.answer.new.self moment (shown_command c.args.command) (shown_reply c.answer.result) _ _ _ _ c.answer.ensures.turn (rw (← c.self.view_is)) (rw (← c.self.view_is, read.clock)) _ _ c.answer.ensures.crashes

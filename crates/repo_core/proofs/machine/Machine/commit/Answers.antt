@@ -104,5 +104,5 @@ returns-clause-turn g c =
     (recorded-by w new (commit n) t r (g.K.Records.tables c.args.records.now) (g.K.Records.tables c.commit-did.new.records) (g.K.Records.faults c.args.records.now) (g.K.Records.faults c.commit-did.new.records)
     refl refl (commit-given t c.commit-did.result c.commit-did.ensures.reply c.commit-did.ensures.asked) refl refl left c.commit-did.ensures.tables c.commit-did.ensures.cause)
 
-pub returns-clause-stops : goal.returns-clause-stops
-returns-clause-stops g c = rw (← c.self.view_is) c.commit-did.ensures.stops
+pub returns-clause-crashes : goal.returns-clause-crashes
+returns-clause-crashes g c = rw (← c.self.view_is) c.commit-did.ensures.crashes

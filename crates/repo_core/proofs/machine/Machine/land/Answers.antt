@@ -17,7 +17,7 @@ use Rattle.repo_core.proofs.LandLemmas.{cached-landed, drawn-so, hosted-landed, 
 use Rattle.repo_parts.proofs.ShelfChanges.{landed-still}
 use Rattle.proxy_rules.specs.Landings.{has_failed, shown_landed}
 use Rattle.repo_parts.proofs.SessionNumbers.{session-landed}
-use Rattle.row_tables.specs.Stops.{HasReplyStop}
+use Rattle.row_tables.specs.Crashes.{HasReplyCrash}
 use Rattle.repo_core.proofs.machine.Machine.land.Goals as goal
 
 pub land-did-requires-clause-there : goal.land-did-requires-clause-there
@@ -83,8 +83,8 @@ returns-clause-turn g c =
     rw (c.reply_of_landed.ensures, ← c.self.view_is)
     (recorded-land _ _ c.args.plan landing c.land-did.result _ _ _ _ drawn met refl refl lands.answered lands.asked (rw (lands.proxies, c.settle_landed.ensures)) lands.tables lands.cause)
 
-pub returns-clause-stops : goal.returns-clause-stops
-returns-clause-stops g c =
+pub returns-clause-crashes : goal.returns-clause-crashes
+returns-clause-crashes g c =
     let w = c.args.self.now in
     let told = g.K.Records.tables c.args.records.now in
     let was = g.K.Records.unsettled c.args.records.now in
@@ -94,5 +94,5 @@ returns-clause-stops g c =
     let drawn : is_drawn c.args.plan.draft w.state.yard.drafts ≡ true = subst (λ (p : Parts). is_drawn c.args.plan.draft p.state.yard.drafts ≡ true) c.self.view_is inside in
     let reply = shown_landed c.land-did.result in
     rw c.reply_of_landed.ensures
-    (subst (λ (t : Turn). HasReplyStop (recorded t.effects) told was now reply) (sym (land-turn w w c.args.plan landing Kept drawn))
-    (subst (λ (p : Parts). HasReplyStop (recorded (landing_in p.state.proxies p.state.last c.args.plan c.args.outcome)) told was now reply) c.self.view_is c.land-did.ensures.stops))
+    (subst (λ (t : Turn). HasReplyCrash (recorded t.effects) told was now reply) (sym (land-turn w w c.args.plan landing Kept drawn))
+    (subst (λ (p : Parts). HasReplyCrash (recorded (landing_in p.state.proxies p.state.last c.args.plan c.args.outcome)) told was now reply) c.self.view_is c.land-did.ensures.crashes))

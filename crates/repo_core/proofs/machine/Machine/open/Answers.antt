@@ -12,7 +12,7 @@ use Rattle.repo_parts.specs.Proxies.{AreCachedInUse}
 use Rattle.repo_core.specs.Whole.{Parts}
 use Rattle.repo_core.proofs.DeployTurns.{due-or-free, open-all, open-left, open-next, turn-open}
 use Rattle.repo_parts.proofs.StagedLemmas.{staged-opened}
-use Rattle.row_tables.specs.Stops.{HasReplyStop}
+use Rattle.row_tables.specs.Crashes.{HasReplyCrash}
 use Rattle.repo_model.specs.Effect.{recorded}
 use Rattle.repo_model.specs.Turn.{Turn}
 use Rattle.repo_core.proofs.machine.Machine.open.Goals as goal
@@ -59,12 +59,12 @@ returns-clause-turn g c =
     (g.K.Records.faults c.begin-begun.new.records) (turn-open s repo k refl (sym c.self.invariant.numbers) w refl) refl (recorded-given (begin_turn k repo) r c.begin-begun.ensures.reply) refl refl left
     c.begin-begun.ensures.tables c.begin-begun.ensures.cause)
 
-pub returns-clause-stops : goal.returns-clause-stops
-returns-clause-stops g c =
+pub returns-clause-crashes : goal.returns-clause-crashes
+returns-clause-crashes g c =
     let k : Known = c.self.inside.sessions in
     let repo = c.args.repo.now in
     let s : State = (c.self.view_is 0).state in
     let w : Parts = c.self.view_is 0 in
     rw (← c.self.view_is)
-    (subst (λ (t : Turn). HasReplyStop (recorded t.effects) (g.K.Records.tables c.args.records.now) (g.K.Records.unsettled c.args.records.now) (g.K.Records.unsettled c.begin-begun.new.records) (shown_begin c.begin-begun.result))
-    (sym (turn-open s repo k refl (sym c.self.invariant.numbers) w refl)) c.begin-begun.ensures.stops)
+    (subst (λ (t : Turn). HasReplyCrash (recorded t.effects) (g.K.Records.tables c.args.records.now) (g.K.Records.unsettled c.args.records.now) (g.K.Records.unsettled c.begin-begun.new.records) (shown_begin c.begin-begun.result))
+    (sym (turn-open s repo k refl (sym c.self.invariant.numbers) w refl)) c.begin-begun.ensures.crashes)

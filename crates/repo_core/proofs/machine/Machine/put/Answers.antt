@@ -21,7 +21,7 @@ use Rattle.repo_parts.proofs.SessionNumbers.{session-put}
 use Rattle.repo_parts.proofs.ShelfChanges.{put-still}
 use Rattle.repo_parts.proofs.StagedLemmas.{staged-put}
 use Rattle.repo_parts.proofs.UseLemmas.{put-used}
-use Rattle.row_tables.specs.Stops.{HasReplyStop}
+use Rattle.row_tables.specs.Crashes.{HasReplyCrash}
 use Rattle.repo_core.proofs.machine.Machine.put.Goals as goal
 
 pub repo_mut-requires : goal.repo_mut-requires
@@ -84,10 +84,10 @@ returns-clause-turn g c =
     (recorded-put _ c.args.repo.now c.args.path.now c.args.draft (shown_parcel c.args.parcel) among named c.repo_mut.result.now c.repo_mut.ensures.found c.put-outcome.new.self _ (shown_put c.put-outcome.result) _ _ _ _ did.reply did.rows
     (ap (λ (y : Numbers). y.yard) c.settle_put.ensures) did.tables did.cause)
 
-pub returns-clause-stops : goal.returns-clause-stops
-returns-clause-stops g c =
+pub returns-clause-crashes : goal.returns-clause-crashes
+returns-clause-crashes g c =
     let among : is_among c.args.draft c.self.inside.yard.yard.drafts ≡ true = cc in
     let named = named-so c.args.self.now.settings c.args.repo.now c.args.path.now c.args.draft (shown_parcel c.args.parcel) c.requires.meets in
     rw (c.reply_of_put.ensures, ← c.self.view_is)
-    (subst (λ (t : Turn). HasReplyStop (recorded t.effects) (g.K.Records.tables c.args.records.now) (g.K.Records.unsettled c.args.records.now) (g.K.Records.unsettled c.put-outcome.new.records) (shown_put c.put-outcome.result))
-    (turn-at (c.self.view_is 0) c.args.repo.now c.args.path.now c.args.draft (shown_parcel c.args.parcel) among named c.repo_mut.result.now c.repo_mut.ensures.found) c.put-outcome.ensures.stops)
+    (subst (λ (t : Turn). HasReplyCrash (recorded t.effects) (g.K.Records.tables c.args.records.now) (g.K.Records.unsettled c.args.records.now) (g.K.Records.unsettled c.put-outcome.new.records) (shown_put c.put-outcome.result))
+    (turn-at (c.self.view_is 0) c.args.repo.now c.args.path.now c.args.draft (shown_parcel c.args.parcel) among named c.repo_mut.result.now c.repo_mut.ensures.found) c.put-outcome.ensures.crashes)

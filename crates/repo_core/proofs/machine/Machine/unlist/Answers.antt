@@ -4,7 +4,7 @@ use Rattle.ordered_rows.specs.Recording.{FitWhereTold}
 use Rattle.repo_model.specs.Command.{meets, unlist}
 use Rattle.repo_model.specs.Effect.{recorded}
 use Rattle.repo_model.specs.Turn.{unlist_of}
-use Rattle.row_tables.specs.Stops.{HasCommitStop}
+use Rattle.row_tables.specs.Crashes.{HasCommitCrash}
 use Rattle.repo_parts.specs.Hosted.{AreInUse, rules_of}
 use Rattle.repo_parts.specs.Changes.{gone_by_unlist}
 use Rattle.repo_parts.specs.Shelves.{AreShelved, HaveForgotten}
@@ -71,18 +71,18 @@ returns-clause-turn g c =
           rw (← c.self.view_is, w.result-is) (unlist-without _ c.args.repo.now old new here _ _ _ _ did.err did.untold (rw fault at did.cause))
     ]
 
-pub returns-clause-stops : goal.returns-clause-stops
-returns-clause-stops g c =
-    let stops =
+pub returns-clause-crashes : goal.returns-clause-crashes
+returns-clause-crashes g c =
+    let crashes =
     subst
-    (λ found. HasCommitStop (recorded (unlist_of c.self.inside.last found).effects) (g.K.Records.tables c.args.records.now) (g.K.Records.unsettled c.args.records.now) (g.K.Records.unsettled c.unlist-did.new.records) c.unlist-did.result)
-    (sym c.repo_mut.ensures.found) c.unlist-did.ensures.stops in
+    (λ found. HasCommitCrash (recorded (unlist_of c.self.inside.last found).effects) (g.K.Records.tables c.args.records.now) (g.K.Records.unsettled c.args.records.now) (g.K.Records.unsettled c.unlist-did.new.records) c.unlist-did.result)
+    (sym c.repo_mut.ensures.found) c.unlist-did.ensures.crashes in
     elim c.match-did.branch [
-      | in-Ok w ↦ rw (← c.self.view_is, w.result-is) (rw w.in-Ok.is at stops)
+      | in-Ok w ↦ rw (← c.self.view_is, w.result-is) (rw w.in-Ok.is at crashes)
       | in-Err-Failed w ↦
           let fault = rw w.in-Err-Failed.is at w.in-Err-Failed.field-0-is in
-          rw (← c.self.view_is, w.result-is) (rw (w.in-Err-Failed.is, fault) at stops)
+          rw (← c.self.view_is, w.result-is) (rw (w.in-Err-Failed.is, fault) at crashes)
       | in-Err-NoMemory w ↦
           let fault = rw w.in-Err-NoMemory.is at w.in-Err-NoMemory.field-0-is in
-          rw (← c.self.view_is, w.result-is) (rw (w.in-Err-NoMemory.is, fault) at stops)
+          rw (← c.self.view_is, w.result-is) (rw (w.in-Err-NoMemory.is, fault) at crashes)
     ]

@@ -6,12 +6,12 @@ use Rattle.repo_model.specs.Shown.{entry_of, shown_command, shown_reply}
 use Rattle.repo_laws.specs.Laws.{KeepsReleases}
 use Rattle.repo_laws.proofs.Lasting.{releases-last}
 use Rattle.row_tables.specs.Commits.{tables_with}
-use Rattle.row_tables.specs.Stopping.{Stopping}
+use Rattle.row_tables.specs.Crashing.{Crashing}
 use Rattle.repo_core.specs.Whole.{IsKept, Whole, counting, whole_of}
 use Rattle.repo_core.proofs.AnswerLemmas.{answers}
 use Rattle.repo_core.proofs.KeepLemmas.{may-record, orderly-kept}
 use Rattle.settings_laws.proofs.Apart.{named-apart}
-use Rattle.repo_core.proofs.StopTurns.{stopping-so}
+use Rattle.repo_core.proofs.CrashTurns.{crashing-so}
 use Rattle.repo_core.proofs.Turning.{kept-more}
 use Rattle.repo_core.proofs.repository.Core.call.Goals as goal
 
@@ -76,13 +76,13 @@ pub returns-clause-cause : goal.returns-clause-cause
 returns-clause-cause g c =
     subst (λ (w : Whole). HasReplyCause w.state.faults (g.K.Records.faults c.call.new.records) (shown_reply c.call.result)) c.self.view_is c.call.ensures.cause
 
-pub returns-clause-stops : goal.returns-clause-stops
-returns-clause-stops g c =
+pub returns-clause-crashes : goal.returns-clause-crashes
+returns-clause-crashes g c =
     let told = g.K.Records.tables c.self.inside.records in
     let told' = g.K.Records.tables c.call.new.records in
     let was = g.K.Records.unsettled c.self.inside.records in
     let now = g.K.Records.unsettled c.call.new.records in
     let old : Whole = whole_of c.self.inside.machine told was (g.K.Records.faults c.self.inside.records) in
     let e : Entry = entry_of c.args.command c.call.new.self.state.last c.call.result (g.K.Records.faults c.call.new.records) in
-    subst (λ (w : Whole). Stopping w.settings w.state e w.tables told' w.unsettled now) c.self.view_is
-    (stopping-so old.settings old.state e told told' was now (g.met.K.Records.rests c.self.inside.records c.self.invariant.ready) (g.met.K.Records.rests c.call.new.records c.call.ensures.ready) c.call.ensures.tables c.call.ensures.settled c.call.ensures.stops)
+    subst (λ (w : Whole). Crashing w.settings w.state e w.tables told' w.unsettled now) c.self.view_is
+    (crashing-so old.settings old.state e told told' was now (g.met.K.Records.rests c.self.inside.records c.self.invariant.ready) (g.met.K.Records.rests c.call.new.records c.call.ensures.ready) c.call.ensures.tables c.call.ensures.settled c.call.ensures.crashes)

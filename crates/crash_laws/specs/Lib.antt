@@ -1,0 +1,5 @@
+pub mod Crashes
+pub mod Found
+pub mod Runs
+pub mod Stores
+pub mod Handed

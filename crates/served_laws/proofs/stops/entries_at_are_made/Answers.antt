@@ -1,5 +1,0 @@
-use Rattle.served_laws.proofs.Kept.{entries-at}
-use Rattle.served_laws.proofs.stops.entries_at_are_made.Goals as goal
-
-pub returns : goal.returns
-returns c = entries-at

@@ -1,5 +1,0 @@
-use Rattle.stop_laws.proofs.RunLaws.{runs-find}
-use Rattle.stop_laws.proofs.laws.stops_of_runs_find_what_is_left.Goals as goal
-
-pub returns : goal.returns
-returns c = runs-find

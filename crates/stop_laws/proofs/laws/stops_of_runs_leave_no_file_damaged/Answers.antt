@@ -1,5 +1,0 @@
-use Rattle.stop_laws.proofs.Missed.{run-whole}
-use Rattle.stop_laws.proofs.laws.stops_of_runs_leave_no_file_damaged.Goals as goal
-
-pub returns : goal.returns
-returns c = run-whole

@@ -1,5 +1,0 @@
-use Rattle.stop_laws.proofs.Begun.{whole-stored}
-use Rattle.stop_laws.proofs.laws.whole_files_are_stored.Goals as goal
-
-pub returns : goal.returns
-returns c = whole-stored
