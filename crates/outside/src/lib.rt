@@ -8,8 +8,10 @@
 
 mod checks;
 mod clocks;
+mod contents;
 mod duplex;
 mod faults;
+mod gatherings;
 mod parcels;
 mod pieces;
 mod ports;
@@ -22,8 +24,10 @@ mod tells;
 
 pub use checks::{CheckFault, Checked, adopt_checked};
 pub use clocks::Clock;
+pub use contents::{KEPT_BYTES, KeptContent};
 pub use duplex::Duplex;
 pub use faults::{BlobFault, Failed, NoMemory};
+pub use gatherings::Gathering;
 pub use parcels::Parcel;
 pub use pieces::{PIECE_BYTES, Piece, read_full_at};
 pub use ports::Port;

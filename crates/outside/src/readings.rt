@@ -123,6 +123,18 @@ impl Reading {
         self.piece.bytes()
     }
 
+    /// The digests of the blob, if it was found whole and equal, and all of it was given.
+    pub(crate) fn found(&self) -> Option<Digests>
+        ensures { IfSome result (λ digests. (self.now.is_whole ≡ true) × (self.now.given ≡ length self.now.message)
+            × (digests ≡ self.now.digests) × IsPrintOf self.now.message self.now.recorded self.now.digests) }
+    {
+        if self.is_whole {
+            Some(self.digests)
+        } else {
+            None
+        }
+    }
+
     // The piece that was given is hashed, the one that was ahead is the one to give, and nothing is ahead.
     fn pass(&mut self)
         requires { self.old.is_spent ≡ false }

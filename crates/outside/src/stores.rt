@@ -1,9 +1,12 @@
 ghost use Rattle.std.specs.Prelude.{◌≡◌, ◌<◌, ◌≤◌, ◌+◌, ◌^◌, ℕ, List, [], Option, Some, None, length, IfOk, IfSome, OnOk, OnErr};
 ghost use Rattle.outside.specs.Blobs.{HasBlobCause, IsAdopted, IsPart, Shelf, bytes_at, numbers_of, sealed, untold, without_blob, without_bytes};
 ghost use Rattle.outside.specs.Faults.{HasCause};
+ghost use Rattle.outside.specs.Parcel.{Describes};
 ghost use Rattle.outside.specs.Told.{IsWhereTold, behind};
 
+use crate::contents::KeptContent;
 use crate::faults::{BlobFault, Failed, NoMemory};
+use mvn_digest::Digests;
 
 /// A stored blob in use: while it is held, its bytes can be read.
 pub trait Held: Drop {
@@ -97,4 +100,21 @@ pub trait Blobs {
         ensures cause { HasBlobCause (faults self.old) (faults self.new) result }
         ensures listed { IfOk result (λ numbers. IsWhereTold (numbers_of (shelf self.old)) numbers.items) }
         ensures kept { shelf self.new ≡ shelf self.old };
+
+    /// A content that stays in memory since it was found whole and equal: with this length and these digests, and the bytes of
+    /// what is held if these are told. A store need keep none.
+    fn kept(&mut self, _held: &Self::Held, _length: u64, _digests: &Digests) -> Option<KeptContent>
+        ensures print { IfSome result (λ content. Describes (Some content) _length _digests.now) }
+        ensures told { IfSome result (λ content. IsWhereTold (Self.Held.bytes _held.now) content) }
+        ensures cause { faults self.new ≡ faults self.old }
+        ensures kept { shelf self.new ≡ shelf self.old }
+    {
+        None
+    }
+
+    /// Keeps a content of what is held, which was found whole and equal, or lets it go.
+    fn keep(&mut self, _held: &Self::Held, _content: KeptContent)
+        ensures cause { faults self.new ≡ faults self.old }
+        ensures kept { shelf self.new ≡ shelf self.old }
+    {}
 }
