@@ -4,6 +4,7 @@ ghost use Rattle.turn_lock.specs.History.{IsStep};
 ghost use Rattle.turn_lock.specs.Seats.{opening, parts_of, IsSeatOf, IsNoteOf};
 
 use std::alloc::{AllocError, Global};
+use std::hint::spin_loop;
 use std::sync::Wait;
 use std::test::*;
 use std::thread::Threads;
@@ -71,6 +72,37 @@ impl Thing for Shelf {
 struct Told<N> {
     note: N,
     sum: u64,
+}
+
+// A call takes as long as it says, and is told how many were made before it.
+#[derive(Drop)]
+struct Slow {
+    calls: u64,
+}
+
+impl Thing for Slow {
+    type Call = u64;
+
+    type Reply = u64;
+
+    ghost Fixed = { Unit {0} };
+
+    ghost fixed = { λ s. tt };
+
+    ghost may_ask = { λ f n. Unit {0} };
+
+    ghost turned = { λ a n reply b. (reply ≡ a.calls) × (b.calls ≡ (a.calls + 1) % 2 ^ 64) };
+
+    ghost stays_fixed = { λ a b n reply t i. tt };
+
+    fn turn(&mut self, call: u64) -> u64 {
+        for _ in 0..call {
+            spin_loop();
+        }
+        let before = self.calls;
+        self.calls = before.wrapping_add(1);
+        before
+    }
 }
 
 // A seat that takes a note in, makes the same call so often, and makes a note. Gives the seat, and with it that note and the sum of what was answered.
@@ -264,5 +296,20 @@ fn a_note_goes_from_one_thread_to_another(rt: HostRuntime) -> Result<(), Fail> {
     let told = (one.1.sum, two.1.sum);
     let (counter, calls) = end(turns, (one.0, one.1.note), (two.0, two.1.note));
     assert_eq!(rt; (told, counter.sum, calls), ((0, 5), 6, 2));
+    Ok(())
+}
+
+// Each of two callers sleeps while the other one's call takes its time, and is woken after it. Else the test has no end.
+#[test]
+fn one_that_sleeps_alone_is_woken(rt: HostRuntime) -> Result<(), Fail> {
+    let Ok((turns, seat)) = Turns::begin(rt.alloc(), Slow { calls: 0 }) else {
+        return Err("memory".into());
+    };
+    let (one, two) = two_seats(&turns, seat);
+    let calls = (100_000, 100_000);
+    let (one, two) = both_call(&rt, rt.alloc(), &turns, one, two, calls, (40, 40))?;
+    let sum = one.1.sum.wrapping_add(two.1.sum);
+    let (_, calls) = end(turns, (one.0, one.1.note), (two.0, two.1.note));
+    assert_eq!(rt; (sum, calls), (79 * 40, 80));
     Ok(())
 }

@@ -1,5 +1,5 @@
 //! How many desks wait, and how many connections there are: what a desk knows of the others.
-use crate::limits::{LONGEST_RUN, MOST_OPEN, RUN};
+use crate::limits::{LONGEST_RUN, RUN, most_open};
 use std::alloc::{AllocError, Global};
 use std::sync::Arc;
 use std::sync::atomic::{AtomicU64, Ordering};
@@ -7,6 +7,7 @@ use std::sync::atomic::{AtomicU64, Ordering};
 /// Counts that all desks of a server share.
 #[derive(Drop)]
 pub struct Crowd {
+    most: u64,
     desks: AtomicU64,
     waiting: AtomicU64,
     open: AtomicU64,
@@ -19,6 +20,7 @@ impl Crowd {
         Ok(Arc::new(
             alloc,
             Crowd {
+                most: most_open(),
                 desks: AtomicU64::new(0),
                 waiting: AtomicU64::new(0),
                 open: AtomicU64::new(0),
@@ -35,6 +37,11 @@ impl Crowd {
     /// A desk begins to wait for a connection.
     pub fn begin_wait(&self) {
         self.waiting.fetch_add(1, Ordering::SeqCst);
+    }
+
+    /// Whether a desk waits.
+    pub fn is_anyone_waiting(&self) -> bool {
+        self.waiting.load(Ordering::SeqCst) != 0
     }
 
     /// It has one, or looks around.
@@ -69,9 +76,9 @@ impl Crowd {
         self.cool_down(1);
     }
 
-    /// Whether no connection more may be open.
+    /// Whether as many connections are open as may be.
     pub fn is_full(&self) -> bool {
-        self.open.load(Ordering::SeqCst) >= MOST_OPEN
+        self.open.load(Ordering::SeqCst) >= self.most
     }
 
     /// Whether a run of so many requests is to end before the next one. As long as another desk waits no connection with bytes

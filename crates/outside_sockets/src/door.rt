@@ -1,11 +1,17 @@
 //! The doorman: the connections that no desk has, and whichever desk waits looks after them.
 //!
-//! One set of descriptors of the system (`epoll`) has the listener and all connections. A descriptor is told once to one of the
-//! desks that wait, and not again before it is asked for again, so the desk that is told of a connection has it alone.
+//! One set of descriptors of the system (`epoll`) has the listener and all connections. Of each the system tells one desk once, and
+//! not again before it is asked again. A connection that it told of stands in the line (`Line`) until a desk takes it, and so does
+//! one whose run has ended while more may have come: of that one the system is asked again only after a read that found nothing.
+//! The desk that takes a connection from its place (`Room`) has it alone.
+//!
+//! Nobody sleeps while one stands in the line: a desk that begins to wait counts itself first and looks at the line then, and one
+//! that has added to the line takes one of it, and wakes a desk that waits if another one still stands there.
 use crate::closing::{begin, drop_some};
 use crate::crowd::Crowd;
 use crate::front::Front;
-use crate::limits::{PATROL, PAUSE, milliseconds};
+use crate::limits::{BATCH, LOOK, PATROL, PAUSE, milliseconds};
+use crate::line::Line;
 use crate::room::{Kept, Room, State};
 use libc::net as c;
 use mio::{Poll, Token, Waker};
@@ -25,9 +31,6 @@ const WAKER: u64 = u64::MAX - 1;
 
 const BYTES: u32 = c::EPOLLIN | c::EPOLLRDHUP | c::EPOLLONESHOT;
 
-// It is told of at once, but after all that were told of before.
-const TURN: u32 = c::EPOLLOUT | c::EPOLLONESHOT;
-
 /// What a desk that waits is told.
 #[derive(Clone, Copy)]
 pub enum Told {
@@ -46,7 +49,10 @@ pub struct Door<R: Net> {
     waker: Waker,
     pub listener: R::Listener,
     room: Room<R::Stream>,
+    line: Line,
     pub crowd: Arc<Crowd, Global>,
+    // Whether the listener is left alone, since each connection has a request under way.
+    shut: AtomicU64,
     ended: AtomicU64,
     announced: AtomicU64,
     patrol: AtomicU64,
@@ -76,7 +82,9 @@ impl<R: Net> Door<R> {
             waker,
             listener,
             room,
+            line: Line::new(alloc).map_err(no_room)?,
             crowd: Crowd::new(alloc).map_err(no_room)?,
+            shut: AtomicU64::new(0),
             ended: AtomicU64::new(0),
             announced: AtomicU64::new(0),
             patrol: AtomicU64::new(0),
@@ -112,27 +120,92 @@ impl<R: Net> Door<R> {
         self.announced.load(Ordering::SeqCst) == 0 && self.announced.swap(1, Ordering::SeqCst) == 0
     }
 
-    /// Waits until there is something to do, at most for the time of a patrol.
-    pub fn wait(&self) -> Told {
-        let mut found = [EpollEvent { events: 0, data: 0 }];
-        self.crowd.begin_wait();
-        let count = os::epoll_wait(self.poll.as_raw_fd(), &mut found, PATROL as i32);
-        self.crowd.end_wait();
-        if count == 0 {
-            return Told::Nothing;
-        }
-        match found[0].data {
-            LISTENER => Told::Arrivals,
-            WAKER => Told::Nothing,
-            key => Told::Bytes(key),
+    // The connection whose turn it is. If others stand in the line, a desk that waits is woken for them.
+    fn next_in_line(&self) -> Option<Told> {
+        let key = self.line.take()?;
+        self.share();
+        Some(Told::Bytes(key))
+    }
+
+    // Wakes a desk that waits, if somebody stands in the line.
+    fn share(&self) {
+        if self.crowd.is_anyone_waiting() && !self.line.is_empty() {
+            let _ = self.waker.wake();
         }
     }
 
-    // A connection is open no more. Whether there was one.
+    // Counts a desk as waiting, unless somebody stands in the line. Whether it counted it.
+    fn begins_wait(&self) -> bool {
+        if !self.line.is_empty() {
+            return false;
+        }
+        self.crowd.begin_wait();
+        if self.line.is_empty() {
+            return true;
+        }
+        self.crowd.end_wait();
+        false
+    }
+
+    // Asks the system for events. If nobody stands in the line it waits for one, at most for the time of a patrol. How many came.
+    fn ask(&self, found: &mut [EpollEvent; BATCH]) -> usize {
+        let set = self.poll.as_raw_fd();
+        let most = if self.crowd.is_anyone_waiting() {
+            1
+        } else {
+            BATCH
+        };
+        if !self.begins_wait() {
+            return os::epoll_wait(set, &mut found[..], 0);
+        }
+        let count = os::epoll_wait(set, &mut found[..most], PATROL as i32);
+        self.crowd.end_wait();
+        count
+    }
+
+    // Adds to the line whom the system tells of. Whether the listener has connections.
+    fn look(&self) -> bool {
+        let mut found = [EpollEvent { events: 0, data: 0 }; BATCH];
+        let count = self.ask(&mut found);
+        let mut arrivals = false;
+        for event in found.iter().take(count) {
+            match event.data {
+                LISTENER => arrivals = true,
+                WAKER => {}
+                key => {
+                    let _ = self.line.add(key);
+                }
+            }
+        }
+        arrivals
+    }
+
+    /// Waits until there is something to do, at most for the time of a patrol. `turns` is how many connections a desk may take of
+    /// the line before it asks the system again: as many as stood there when it last asked.
+    pub fn wait(&self, turns: &mut u64) -> Told {
+        if *turns > 0 {
+            if let Some(told) = self.next_in_line() {
+                *turns = turns.saturating_sub(1);
+                return told;
+            }
+        }
+        let arrivals = self.look();
+        *turns = self.line.count().min(LOOK);
+        if arrivals {
+            self.share();
+            return Told::Arrivals;
+        }
+        *turns = turns.saturating_sub(1);
+        self.next_in_line().unwrap_or(Told::Nothing)
+    }
+
+    // Closes a connection that was kept. Whether there was one.
     fn lose(&self, kept: Option<Kept<R::Stream>>) -> bool {
         let Some(kept) = kept else {
             return false;
         };
+        self.line
+            .remove(u64::from(kept.stream.as_raw_fd().unsigned_abs()));
         self.crowd.end_links(1);
         if !kept.cold {
             self.crowd.cool_down(1);
@@ -140,33 +213,70 @@ impl<R: Net> Door<R> {
         true
     }
 
-    /// Keeps a connection, and has the system tell of it once: when bytes come, or in its turn where a request of it is held.
-    /// Where that can't be it is closed.
-    pub fn keep<W: Wait>(&self, waits: &W, kept: Kept<R::Stream>) {
+    /// Keeps a connection. If a request of it is held, or more may have come of it, it stands in the line; else the system tells of
+    /// it once, when bytes come. If neither can be it is closed.
+    pub fn keep<W: Wait>(&self, waits: &W, kept: Kept<R::Stream>, more: bool) {
         let fd = kept.stream.as_raw_fd();
         let op = if kept.known {
             c::EPOLL_CTL_MOD
         } else {
             c::EPOLL_CTL_ADD
         };
-        let events = if kept.has_request() { TURN } else { BYTES };
+        let stands = kept.known && (more || kept.has_request());
         let mut kept = kept;
         kept.known = true;
+        kept.unsure = more;
         let key = u64::from(fd.unsigned_abs());
         let set = self.poll.as_raw_fd();
         let refused = self.room.put(
             waits,
             fd,
             kept,
-            || os::epoll_ctl(set, op, fd, events, key) == 0,
+            || if stands {
+                self.line.add(key)
+            } else {
+                os::epoll_ctl(set, op, fd, BYTES, key) == 0
+            },
         );
         self.lose(refused);
     }
 
-    /// Keeps one that was just accepted.
+    /// Has the system tell of the listener again, if it was left alone. It is called after each event by which a connection may
+    /// have ended, or have no request under way any more.
+    pub fn reopen(&self) {
+        if self.shut.load(Ordering::SeqCst) == 0 || self.shut.swap(0, Ordering::SeqCst) == 0 {
+            return;
+        }
+        if !self.open() {
+            self.end();
+        }
+    }
+
+    // Whether a connection more may be open, if need be in the place of another one.
+    fn may_accept<W: Wait>(&self, waits: &W) -> bool {
+        !self.crowd.is_full() || self.room.can_close(waits)
+    }
+
+    /// Whether there is a place for a connection more. If not, the listener is left alone until there may be one (`reopen`).
+    pub fn has_place<W: Wait>(&self, waits: &W) -> bool {
+        if self.may_accept(waits) {
+            return true;
+        }
+        self.shut.store(1, Ordering::SeqCst);
+        // A place that came free before this was to be seen is found here, and a later one reopens the listener.
+        if self.may_accept(waits) {
+            self.reopen();
+        }
+        false
+    }
+
+    /// Keeps one that was just accepted, if need be in the place of one that is closed. Two are closed if there is one too many:
+    /// a desk may have taken the one that was to be closed for an earlier one.
     pub fn let_in<W: Wait>(&self, waits: &W, now: u64, stream: R::Stream, patience: Duration) {
-        if self.crowd.is_full() {
-            self.make_room(waits);
+        for _ in 0..2 {
+            if self.crowd.is_full() {
+                let _ = self.make_room(waits);
+            }
         }
         self.crowd.add_link();
         self.keep(
@@ -179,7 +289,9 @@ impl<R: Net> Door<R> {
                 since: now,
                 known: false,
                 cold: false,
+                unsure: false,
             },
+            false,
         );
     }
 
@@ -191,6 +303,7 @@ impl<R: Net> Door<R> {
         stream: R::Stream,
         patience: Duration,
         front: Option<Front>,
+        more: bool,
     ) {
         let state = match &front {
             Some(_) => State::Heading,
@@ -206,7 +319,9 @@ impl<R: Net> Door<R> {
                 since: now,
                 known: true,
                 cold: false,
+                unsure: false,
             },
+            more,
         );
     }
 
@@ -225,8 +340,8 @@ impl<R: Net> Door<R> {
         self.lose(self.room.take_first(waits))
     }
 
-    /// Closes the connections that have been kept too long, once a second.
-    pub fn patrol<W: Wait>(&self, waits: &W, now: u64) {
+    /// Closes the connections that have been kept too long, once a second. It does not wait.
+    pub fn patrol(&self, now: u64) {
         let due = self.patrol.load(Ordering::SeqCst);
         if now < due {
             return;
@@ -239,9 +354,11 @@ impl<R: Net> Door<R> {
         {
             return;
         }
-        let (closed, cooled) = self.room.look_around(waits, now);
+        let busy = !self.crowd.is_anyone_waiting();
+        let (closed, cooled) = self.room.look_around(now, busy);
         self.crowd.end_links(closed);
         self.crowd.cool_down(cooled);
+        self.reopen();
     }
 
     /// Closes a connection, which may take a while that no desk waits for.
@@ -257,6 +374,7 @@ impl<R: Net> Door<R> {
                     since: now,
                     known: true,
                     cold: false,
+                    unsure: false,
                 },
                 0,
             );
@@ -272,7 +390,7 @@ impl<R: Net> Door<R> {
         match drop_some(&mut kept.stream, dropped) {
             Some(dropped) => {
                 kept.state = State::Closing(dropped);
-                self.keep(waits, kept);
+                self.keep(waits, kept, false);
             }
             None => {
                 drop(kept);

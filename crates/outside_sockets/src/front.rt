@@ -3,8 +3,9 @@ ghost use Rattle.std.specs.Prelude.{◌≤◌, length, IfOk};
 
 use crate::heads::{Head, Reach};
 use crate::limits::HEAD_BYTES;
+use libc::net as c;
 use std::alloc::{AllocError, Global};
-use std::io::{ErrorKind, Read};
+use std::io::{self, ErrorKind, Read};
 
 // How often a call that a signal interrupts is tried.
 const TRIES: u32 = 1_000_000;
@@ -58,27 +59,15 @@ impl Front {
 
     // Goes on to the end of the head, or of what is held.
     fn look(&mut self) {
-        let mut looked = self.looked;
-        let mut head = self.head;
-        let mut body = self.body;
-        if let Some(bytes) = self.bytes.get(self.looked..self.end) {
-            for byte in bytes {
-                if body.is_some() {
-                    break;
-                }
-                looked = looked.saturating_add(1);
-                if head.passes(*byte) {
-                    continue;
-                }
-                match head.with(*byte) {
-                    Reach::Open(next) => head = next,
-                    Reach::Whole(length) => body = Some(length),
-                }
-            }
+        if self.body.is_some() {
+            return;
         }
-        self.looked = looked;
-        self.head = head;
-        self.body = body;
+        if let Some(bytes) = self.bytes.get(self.looked..self.end) {
+            let (count, head, body) = went_over(self.head, bytes);
+            self.looked = self.looked.saturating_add(count);
+            self.head = head;
+            self.body = body;
+        }
     }
 
     /// How many bytes the request that is next has in all; none where its head is not whole. Where no byte more can be held all
@@ -125,6 +114,24 @@ impl Front {
         Ok(count)
     }
 
+    /// The same of the connection with this descriptor, without waiting.
+    pub fn read_now(&mut self, fd: i32) -> Result<usize, ErrorKind> {
+        self.pack();
+        let end = self.end.min(self.bytes.len());
+        let count = receive(fd, &mut self.bytes[end..], false)?;
+        self.end = end.saturating_add(count);
+        self.look();
+        Ok(count)
+    }
+
+    /// What has come of the connection with this descriptor, whose bytes are held here.
+    pub fn has_come(&self, fd: i32) -> Come {
+        if self.request().is_some() {
+            return Come::Request;
+        }
+        has_come(fd, self.head, self.end.saturating_sub(self.start))
+    }
+
     /// Gives at most so many of the bytes that are held, from their front. How many it gave.
     pub fn give(&mut self, buffer: &mut [u8], most: u64) -> usize
         ensures { result ≤ length buffer.new }
@@ -138,6 +145,71 @@ impl Front {
         self.start = self.start.saturating_add(count);
         count
     }
+}
+
+// Goes over these bytes to the end of a head, or to theirs: how many that are, what has come of the head, and the length of its
+// body if it ends there.
+fn went_over(head: Head, bytes: &[u8]) -> (usize, Head, Option<u64>) {
+    let mut head = head;
+    let mut count = 0usize;
+    for byte in bytes {
+        count = count.saturating_add(1);
+        if head.passes(*byte) {
+            continue;
+        }
+        match head.with(*byte) {
+            Reach::Open(next) => head = next,
+            Reach::Whole(length) => return (count, head, Some(length)),
+        }
+    }
+    (count, head, None)
+}
+
+/// What has come of a connection that no desk has.
+#[derive(Clone, Copy)]
+pub enum Come {
+    /// A whole head, or as many bytes as a head may have.
+    Request,
+    /// Bytes that were not read yet, and no whole head.
+    Part,
+    /// Nothing that was not read yet.
+    Nothing,
+}
+
+/// What has come of the connection with this descriptor, so many bytes of whose head were read. The bytes that were not read
+/// stay unread.
+pub fn has_come(fd: i32, head: Head, held: usize) -> Come {
+    let mut bytes = [0; HEAD_BYTES];
+    let room = HEAD_BYTES.saturating_sub(held);
+    match receive(fd, &mut bytes[..room], true) {
+        Ok(count) if count > 0 => match went_over(head, &bytes[..count]) {
+            (_, _, None) if count < room => Come::Part,
+            _ => Come::Request,
+        },
+        _ => Come::Nothing,
+    }
+}
+
+// One read that does not wait, tried again if a signal interrupts it. Whether the bytes stay unread.
+fn receive(fd: i32, buffer: &mut [u8], stay: bool) -> Result<usize, ErrorKind>
+    ensures { IfOk result (λ n. n ≤ length buffer.new) }
+{
+    let flags = if stay {
+        c::MSG_PEEK | c::MSG_DONTWAIT
+    } else {
+        c::MSG_DONTWAIT
+    };
+    for _ in 0..TRIES {
+        let count = unsafe { c::recv(fd, buffer, flags) };
+        if count >= 0 {
+            return Ok((count as usize).min(buffer.len()));
+        }
+        let kind = io::Error::from_raw_os_error(os::errno()).kind();
+        if kind != ErrorKind::Interrupted {
+            return Err(kind);
+        }
+    }
+    Err(ErrorKind::Interrupted)
 }
 
 /// One read, tried again where a signal interrupts it.

@@ -9,8 +9,9 @@ use crate::room::{Kept, State};
 use outside::Failed;
 use std::alloc::Global;
 use std::net::Net;
+use std::os::fd::AsRawFd;
 use std::sync::{Arc, Wait};
-use std::time::{Clock, Duration};
+use std::time::Clock;
 
 /// What a desk has beside its connections.
 #[derive(Drop)]
@@ -20,6 +21,8 @@ pub struct Hall<R: Net + Clock + Clone + Drop, W: Wait + Drop> {
     pub alloc: Global,
     /// Room for the bytes of one connection, where the last one has left some.
     pub spare: Option<Front>,
+    /// How many connections it may take of the line before it asks the system again.
+    pub turns: u64,
 }
 
 /// What was heard of a connection.
@@ -35,14 +38,18 @@ enum Heard {
 }
 
 // Reads once of a connection, unless a request of it is held.
-fn hear<R: Net>(stream: &mut R::Stream, waits: &mut Duration, front: &mut Front) -> Heard {
+fn hear<R: Net>(kept: &mut Kept<R::Stream>, front: &mut Front) -> Heard {
     if front.request().is_some() {
         return Heard::Request;
     }
-    if !let_wait(stream, waits, PAUSE) {
+    let read = if kept.unsure {
+        front.read_now(kept.stream.as_raw_fd())
+    } else if let_wait(&kept.stream, &mut kept.waits, PAUSE) {
+        front.read_from(&mut kept.stream)
+    } else {
         return Heard::End;
-    }
-    match front.read_from(stream) {
+    };
+    match read {
         Ok(0) => Heard::End,
         Ok(_) if front.request().is_some() => Heard::Request,
         Ok(_) => Heard::Part,
@@ -79,7 +86,7 @@ impl<R: Net + Clock + Clone + Drop, W: Wait + Drop> Hall<R, W> {
         } else {
             self.take_back(front);
         }
-        door.keep(&self.waits, kept);
+        door.keep(&self.waits, kept, false);
     }
 
     /// Listens to a connection that was told of: a run of it, where a whole head has come. Else it is kept, or closed where it
@@ -101,7 +108,7 @@ impl<R: Net + Clock + Clone + Drop, W: Wait + Drop> Hall<R, W> {
             door.crowd.end_link();
             return Ok(None);
         };
-        match hear::<R>(&mut kept.stream, &mut kept.waits, &mut front) {
+        match hear::<R>(&mut kept, &mut front) {
             Heard::Request => {
                 let timer = self.rt.clone().map_err(|_| Failed)?;
                 let crowd = Arc::try_clone(&door.crowd).map_err(|_| Failed)?;
@@ -113,6 +120,7 @@ impl<R: Net + Clock + Clone + Drop, W: Wait + Drop> Hall<R, W> {
                     since: _,
                     known: _,
                     cold: _,
+                    unsure: _,
                 } = kept;
                 Ok(Some(TcpLink::new(stream, waits, front, timer, crowd)))
             }

@@ -12,9 +12,12 @@ mod front;
 mod heads;
 mod hearing;
 mod limits;
+mod line;
 mod links;
+mod paces;
 mod ports;
 mod room;
 
 pub use links::TcpLink;
+pub use paces::PatrolPace;
 pub use ports::TcpPort;

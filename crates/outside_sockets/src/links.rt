@@ -22,8 +22,8 @@ const TRIES: u32 = 1_000_000;
 enum Stage {
     /// It goes on.
     Open,
-    /// The end was given to a read between two requests, and the connection may go on.
-    Paused,
+    /// The end was given to a read between two requests, and the connection may go on; whether the peer was silent before.
+    Paused(bool),
     /// The peer has ended it.
     Ended,
 }
@@ -63,8 +63,9 @@ pub struct TcpLink<N: OpenStream + Read + Write + Drop, T: Clock + Drop> {
 
 /// What becomes of a connection at the end of a run.
 pub enum Rest<N> {
-    /// It goes on: its stream, how long the system lets a read wait, and what has come and was not given.
-    Kept(N, Duration, Front),
+    /// It goes on: its stream, how long the system lets a read wait, what has come and was not given, and whether the peer was
+    /// silent then.
+    Kept(N, Duration, Front, bool),
     /// The server has ended it, and the peer may still be sending.
     Closing(N, Front),
     /// The peer has ended it.
@@ -132,7 +133,7 @@ impl<N: OpenStream + Read + Write + Drop, T: Clock + Drop> Run<N, T> {
         let enough = self.begun > 0 && self.crowd.ends_run(self.begun);
         if enough || !self.await_head()? {
             if let Stage::Open = self.stage {
-                self.stage = Stage::Paused;
+                self.stage = Stage::Paused(!enough);
             }
             return Ok(false);
         }
@@ -280,8 +281,8 @@ impl<N: OpenStream + Read + Write + Drop, T: Clock + Drop> TcpLink<N, T> {
             waits,
         } = run;
         match stage {
-            Stage::Paused if answered && read_faults == 0 && write_faults == 0 => {
-                Rest::Kept(stream, waits, front)
+            Stage::Paused(silent) if answered && read_faults == 0 && write_faults == 0 => {
+                Rest::Kept(stream, waits, front, silent)
             }
             Stage::Ended => Rest::Over(front),
             _ => Rest::Closing(stream, front),

@@ -6,8 +6,9 @@ use crate::door::{Door, Told, now};
 use crate::hearing::Hall;
 use crate::limits::{NO_ROOM, milliseconds};
 use crate::links::{Rest, TcpLink, set_up};
+use crate::paces::PatrolPace;
 use outside::{Failed, Port};
-use outside_pace::Running;
+use outside_pace::{Pace, Running};
 use std::alloc::Global;
 use std::io::{self, Eprint, ErrorKind};
 use std::marker::Model;
@@ -25,7 +26,8 @@ const ARRIVALS: u32 = 64;
 /// A desk's part of a listener on a port of 127.0.0.1. Contracts see how many calls have failed; it tells no connections.
 ///
 /// `next` gives a connection of which a whole head has come, and `back` gives it to the doorman (`Door`), who keeps it where it
-/// goes on. A desk that waits in `next` is the doorman meanwhile. Where the port could not be taken, as one that is in use,
+/// goes on. A desk that waits in `next` is the doorman meanwhile, and a timer of the listener (`pace`) closes those that were kept
+/// too long, whatever the desks do. Where the port could not be taken, as one that is in use,
 /// a line of standard error says so at once and each `next` fails; and where the listener fails, each desk's does. The first
 /// failure tells those who watch the program's ports that this one has ended. A line says where the server listens when the
 /// first desk asks for its first connection.
@@ -77,6 +79,7 @@ impl<R: Net + Clock + Eprint + Clone + Drop, W: Wait + Drop> TcpPort<R, W> {
                 waits,
                 alloc,
                 spare: None,
+                turns: 0,
             },
             door,
             running: Some(running),
@@ -107,6 +110,15 @@ impl<R: Net + Clock + Eprint + Clone + Drop, W: Wait + Drop> TcpPort<R, W> {
             None => None,
         };
         TcpPort::at(rt, waits, self.hall.alloc, door, running)
+    }
+
+    /// A timer that keeps its pauses by this one, and patrols for the doorman meanwhile.
+    pub fn pace<P: Pace + Drop>(&self, rt: R, pace: P) -> PatrolPace<R, P> {
+        let door = match &self.door {
+            Some(door) => Arc::try_clone(door).ok(),
+            None => None,
+        };
+        PatrolPace::new(rt, door, pace)
     }
 
     /// The number of the port, where it was taken.
@@ -143,6 +155,9 @@ fn next_after(error: &io::Error) -> Next {
 // Takes in the connections that wait at the listener.
 fn let_in<R: Net + Clock, W: Wait>(rt: &R, waits: &W, door: &Door<R>) -> Result<(), Failed> {
     for _ in 0..ARRIVALS {
+        if !door.has_place(waits) {
+            return Ok(());
+        }
         match door.listener.accept() {
             Ok((stream, _)) => {
                 if let Ok(patience) = set_up(&stream) {
@@ -186,11 +201,11 @@ fn found<R: Net + Clock + Eprint + Clone + Drop, W: Wait + Drop>(
         if door.is_over() {
             break;
         }
-        let told = door.wait();
+        let told = door.wait(&mut hall.turns);
         if door.is_over() {
             break;
         }
-        door.patrol(&hall.waits, now(&hall.rt));
+        door.patrol(now(&hall.rt));
         match told {
             Told::Nothing => {}
             Told::Arrivals => let_in(&hall.rt, &hall.waits, door)?,
@@ -199,6 +214,7 @@ fn found<R: Net + Clock + Eprint + Clone + Drop, W: Wait + Drop>(
                     if let Some(link) = hall.listen(door, kept)? {
                         return Ok(link);
                     }
+                    door.reopen();
                 }
             }
         }
@@ -245,24 +261,31 @@ impl<R: Net + Clock + Eprint + Clone + Drop, W: Wait + Drop> Port for TcpPort<R,
             return;
         };
         let now = now(&self.hall.rt);
-        match link.finish() {
-            Rest::Kept(stream, waits, front) => {
+        let more = match link.finish() {
+            Rest::Kept(stream, waits, front, silent) => {
                 let held = if front.is_empty() {
                     self.hall.take_back(front);
                     None
                 } else {
                     Some(front)
                 };
-                door.keep_on(&self.hall.waits, now, stream, waits, held);
+                door.keep_on(&self.hall.waits, now, stream, waits, held, !silent);
+                !silent
             }
             Rest::Closing(stream, front) => {
                 self.hall.take_back(front);
                 door.close(&self.hall.waits, now, stream);
+                false
             }
             Rest::Over(front) => {
                 self.hall.take_back(front);
                 door.crowd.end_link();
+                false
             }
+        };
+        // One of which more may have come is looked at soon, and may have a request under way.
+        if !more {
+            door.reopen();
         }
     }
 }

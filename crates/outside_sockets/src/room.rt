@@ -4,10 +4,12 @@ ghost use Rattle.outside_sockets.specs.Choice.{GoesFirst};
 ghost use Rattle.outside_sockets.specs.Standing.{StandsAs};
 
 use crate::choice::{Rank, Standing, is_first};
-use crate::front::Front;
-use crate::limits::{COLD, FIRST_BYTE, IDLE, LINGER, PLACES, WHOLE_HEAD};
+use crate::front::{Come, Front, has_come};
+use crate::heads::Head;
+use crate::limits::{COLD, FIRST_BYTE, IDLE, LINGER, PLACES, SPARED, WHOLE_HEAD};
 use std::alloc::{AllocError, Global};
 use std::net::OpenStream;
+use std::os::fd::AsRawFd;
 use std::sync::{Mutex, Wait};
 use std::time::Duration;
 
@@ -39,6 +41,8 @@ pub struct Kept<N: Drop> {
     pub known: bool,
     /// Whether it has been quiet for a while.
     pub cold: bool,
+    /// Whether it stands in the line though the system has not told that bytes came.
+    pub unsure: bool,
 }
 
 // Whether bytes have come that were not read. It does not wait.
@@ -49,7 +53,7 @@ fn has_unread<N: OpenStream>(stream: &N) -> bool {
     stream.set_nonblocking(false).is_ok() && unread
 }
 
-impl<N: OpenStream + Drop> Kept<N> {
+impl<N: OpenStream + AsRawFd + Drop> Kept<N> {
     // Whether it has been kept too long.
     fn is_late(&self, now: u64) -> bool {
         let most = match self.state {
@@ -65,9 +69,31 @@ impl<N: OpenStream + Drop> Kept<N> {
         matches!(self.state, State::Closing(_))
     }
 
-    // Whether no desk has looked yet at what has come of it, since all have had other work.
-    fn is_unheard(&self) -> bool {
-        !self.is_closing() && (self.has_request() || has_unread(&self.stream))
+    // What has come of it, whether it was read or not.
+    fn has_come(&self) -> Come {
+        let fd = self.stream.as_raw_fd();
+        match &self.front {
+            Some(front) => front.has_come(fd),
+            None => has_come(fd, Head::new(), 0),
+        }
+    }
+
+    // Whether it is a new one of which no byte has come.
+    fn is_silent(&self) -> bool {
+        matches!(self.state, State::New) && matches!(self.has_come(), Come::Nothing)
+    }
+
+    // Whether a request of it waits for a desk.
+    fn has_asked(&self) -> bool {
+        !self.is_closing() && matches!(self.has_come(), Come::Request)
+    }
+
+    // If the front of a head lies unread of it, the head has its time from now on.
+    fn begin_head(&mut self, now: u64) {
+        if matches!(self.state, State::New | State::Idle) && matches!(self.has_come(), Come::Part) {
+            self.state = State::Heading;
+            self.since = now;
+        }
     }
 
     fn rank(&self) -> Rank
@@ -105,6 +131,15 @@ impl<N: OpenStream + Drop> Kept<N> {
         *first = Some(standing);
     }
 
+    // The same, unless a request of it waits for a desk. The system is asked only where that decides.
+    fn weigh_without_request(&self, number: usize, first: &mut Option<Standing>) {
+        let mut next = *first;
+        self.weigh(number, &mut next);
+        if matches!(next, Some(it) if it.number == number) && !self.has_asked() {
+            *first = next;
+        }
+    }
+
     /// Whether a request is held of it.
     pub fn has_request(&self) -> bool {
         match &self.front {
@@ -120,7 +155,7 @@ pub struct Room<N: Drop> {
     places: Vec<Mutex<Option<Kept<N>>>>,
 }
 
-impl<N: OpenStream + Drop> Room<N> {
+impl<N: OpenStream + AsRawFd + Drop> Room<N> {
     /// A room that is empty.
     pub fn new(alloc: Global) -> Result<Room<N>, AllocError> {
         let mut places = Vec::with_capacity(alloc, PLACES)?;
@@ -157,30 +192,60 @@ impl<N: OpenStream + Drop> Room<N> {
         self.place(number)?.lock(waits).take()
     }
 
-    // The one that goes first where one has to be closed.
+    // The one that goes first if one has to be closed: of all, or of those that are not silent if few are silent. One of which a
+    // request waits for a desk does not go.
     fn first_to_go<W: Wait>(&self, waits: &W) -> Option<Standing> {
         let mut first = None;
+        let mut first_heard = None;
+        let mut silent = 0u64;
         for (number, place) in self.places.iter().enumerate() {
             if let Some(kept) = &*place.lock(waits) {
-                kept.weigh(number, &mut first);
+                kept.weigh_without_request(number, &mut first);
+                if silent <= SPARED && kept.is_silent() {
+                    silent = silent.saturating_add(1);
+                } else {
+                    kept.weigh_without_request(number, &mut first_heard);
+                }
             }
         }
-        first
+        match first_heard {
+            Some(heard) if silent <= SPARED && matches!(heard.rank, Rank::Heard) => first_heard,
+            _ => first,
+        }
     }
 
-    /// The one that goes first, which is kept no longer; none where a desk has taken it meanwhile.
+    /// Whether one can be closed.
+    pub fn can_close<W: Wait>(&self, waits: &W) -> bool {
+        for place in &self.places {
+            if let Some(kept) = &*place.lock(waits) {
+                if !kept.has_asked() {
+                    return true;
+                }
+            }
+        }
+        false
+    }
+
+    /// The one that goes first, which is kept no longer; none if a desk has taken it meanwhile, or a request of it has come.
     pub fn take_first<W: Wait>(&self, waits: &W) -> Option<Kept<N>> {
         let first = self.first_to_go(waits)?;
-        self.places.get(first.number)?.lock(waits).take()
+        let mut held = self.places.get(first.number)?.lock(waits);
+        match &*held {
+            Some(kept) if kept.since == first.since && !kept.has_asked() => held.take(),
+            _ => None,
+        }
     }
 
-    /// Closes those that have been kept too long, unless something has come of them that no desk has looked at, and has others be
-    /// cold. It says how many were closed, and how many are warm no longer.
-    pub fn look_around<W: Wait>(&self, waits: &W, now: u64) -> (u64, u64) {
+    /// Closes those that have been kept too long, unless a request of them waits for a desk, and has others be cold. If `busy`, no
+    /// desk waits, and the heads that began unseen begin now. It says how many were closed, and how many are warm no longer. It
+    /// passes over a place that another desk looks at.
+    pub fn look_around(&self, now: u64, busy: bool) -> (u64, u64) {
         let mut closed = 0u64;
         let mut cooled = 0u64;
         for place in &self.places {
-            let mut held = place.lock(waits);
+            let Some(mut held) = place.try_lock() else {
+                continue;
+            };
             let Some(kept) = &mut *held else {
                 continue;
             };
@@ -188,7 +253,10 @@ impl<N: OpenStream + Drop> Room<N> {
                 kept.cold = true;
                 cooled = cooled.saturating_add(1);
             }
-            if kept.is_late(now) && !kept.is_unheard() {
+            if busy || kept.is_late(now) {
+                kept.begin_head(now);
+            }
+            if kept.is_late(now) && !kept.has_asked() {
                 if !kept.cold {
                     cooled = cooled.saturating_add(1);
                 }

@@ -37,9 +37,9 @@ static RUNS: [Act; 8] = [
     Act::Sends(GET, 40),
     Act::Runs(&[Step::Counts(GET, 16)]),
     Act::Client(OTHER),
-    Act::Runs(&[Step::Counts(GET, 16)]),
     Act::Runs(&[Step::Counts(GET, 1)]),
     Act::Runs(&[Step::Counts(OTHER, 1)]),
+    Act::Runs(&[Step::Counts(GET, 1)]),
     Act::Runs(&[Step::Counts(GET, 1)]),
 ];
 
@@ -67,12 +67,22 @@ fn a_head_has_its_time(rt: HostRuntime) {
     assert!(rt; goes(&rt, &rt, &SLOW));
 }
 
-// A request is served that has waited for longer than a new connection is kept, since the desk had another one.
-static LATE: [Act; 4] = [
+const LONG_RUN: [Step; 4] = [
+    Step::Gives(GET),
+    TELLS,
+    Step::FirstSent(b" HTTP/1.1\r\nHost: h\r\n\r\n"),
+    Step::Pause(11_500),
+];
+
+// A request is served that has waited for longer than a new connection is kept, since the desk had another one. So is one of
+// which the desk had read a part before.
+static LATE: [Act; 6] = [
+    Act::Client(b"GET /x"),
     Act::Client(GET),
     Act::Client(OTHER),
-    Act::Runs(&[Step::Gives(GET), TELLS, Step::Pause(11_500)]),
+    Act::Runs(&LONG_RUN),
     Act::Runs(&OTHER_SERVED),
+    Act::Runs(&SERVED),
 ];
 
 #[test]

@@ -45,6 +45,8 @@ pub enum Step {
     Writes(&'static [u8], bool),
     /// The last client sends these bytes so often at once.
     Sent(&'static [u8], u64),
+    /// The first client sends these bytes.
+    FirstSent(&'static [u8]),
     /// Nothing is done for so many milliseconds.
     Pause(u64),
     /// The network by the script does so from now on.
@@ -58,7 +60,7 @@ pub enum Step {
 pub enum Act {
     /// A client comes that has sent these bytes.
     Client(&'static [u8]),
-    /// One for each letter: one that has sent a byte for `b`, a silent one for another.
+    /// One for each letter: one that has sent a byte for `b`, one that has sent a request for `r`, a silent one for another.
     Crowd(&'static str),
     /// The next connection goes through these calls.
     Runs(&'static [Step]),
@@ -143,7 +145,11 @@ fn sends(scene: &Scene, peers: &mut Vec<TcpStream>, bytes: &[u8], times: u64) ->
 
 fn joins_with_crowd(scene: &Scene, peers: &mut Vec<TcpStream>, crowd: &str) -> bool {
     for letter in crowd.as_bytes() {
-        let sent: &[u8] = if *letter == b'b' { b"x" } else { b"" };
+        let sent: &[u8] = match *letter {
+            b'b' => b"x",
+            b'r' => GET,
+            _ => b"",
+        };
         if !scene.joins(peers, sent) {
             return false;
         }
@@ -164,8 +170,8 @@ fn receives(peers: &mut Vec<TcpStream>, ends: bool) -> bool {
     }
 }
 
-// What comes of a connection in a while.
-fn mark_of(peer: &mut TcpStream) -> char {
+/// What comes of a connection in a while.
+pub fn mark_of(peer: &mut TcpStream) -> char {
     if peer
         .set_read_timeout(Some(Duration::from_millis(100)))
         .is_err()
@@ -254,6 +260,10 @@ fn is_taken<S: Stream>(
         Step::OneFails(one, other) => !(gives(link, one) && gives(link, other)),
         Step::Writes(piece, taken) => takes(link, piece) == taken,
         Step::Sent(bytes, times) => sends(scene, peers, bytes, times),
+        Step::FirstSent(bytes) => match peers.first_mut() {
+            Some(peer) => peer.write_all(bytes).is_ok(),
+            None => false,
+        },
         Step::Pause(pause) => scene.pauses(pause),
         Step::Does(does) => {
             scene.script.does.set(does);

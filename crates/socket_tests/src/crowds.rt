@@ -26,15 +26,31 @@ fn is_left<W: Threads + Wait>(
 }
 
 // A listener that accepts one connection and finds no more, accepts a crowd, has no room so often (24: too many open files), and
-// then can't accept (22). In a crowd each `b` stands for a connection of which a byte has come, and `s` for a silent one. A crowd
-// of silent ones goes, the oldest first, and the one that has had an answer stays; one of which a byte has come is none of these,
-// though no desk has read it yet. Where none is silent the one goes that has been idle longest.
-const CROWDS: [(&[i32], &str, &str); 5] = [
-    (&[0, 0, 0, 0, 0, 24, 22], "sss", ".x.."),
-    (&[0, 0, 0, 0, 0, 0, 24, 24, 24, 22], "ssss", ".xxx."),
-    (&[0, 0, 0, 0, 0, 0, 24, 22], "bsbs", "..x.."),
-    (&[0, 0, 0, 0, 0, 24, 24, 22], "bsb", "!.x."),
+// then can't accept (22). In a crowd each `b` stands for a connection of which a byte has come, `r` for one of which a request has
+// come, and `s` for a silent one. A crowd of silent ones goes, the oldest first, and the one that has had an answer stays; one of
+// which a byte has come is none of these, though no desk has read it yet. If eight or fewer are silent the one goes that has been
+// idle longest, and a silent one only if there is no other. One of which a request has come does not go at all: the newest waits
+// at the listener.
+const CROWDS: [(&[i32], &str, &str); 7] = [
+    (
+        &[0, 0, 0, 0, 0, 0, 0, 0, 0, 0, 0, 24, 22],
+        "sssssssss",
+        ".x........",
+    ),
+    (
+        &[0, 0, 0, 0, 0, 0, 0, 0, 0, 0, 0, 0, 24, 24, 24, 22],
+        "ssssssssss",
+        "!xx........",
+    ),
+    (
+        &[0, 0, 0, 0, 0, 0, 0, 0, 0, 0, 0, 0, 24, 22],
+        "bsssssssss",
+        "..x........",
+    ),
+    (&[0, 0, 0, 0, 0, 24, 24, 24, 24, 22], "bsb", "!!x!"),
     (&[0, 0, 0, 0, 24, 22], "bb", "!.."),
+    (&[0, 0, 0, 0, 0, 24, 24, 22], "rsr", "!.x."),
+    (&[0, 0, 0, 0, 24, 24, 22], "rrr", "!..."),
 ];
 
 #[test]

@@ -12,6 +12,10 @@ mod courses;
 #[cfg(test)]
 mod crowds;
 #[cfg(test)]
+mod patrols;
+#[cfg(test)]
+mod remotes;
+#[cfg(test)]
 mod servers;
 #[cfg(test)]
 mod stand_in;

@@ -10,16 +10,16 @@ use std::thread::{self, Threads};
 use std::time::{Duration, Instant};
 use tcp_remote::{Limits, TcpRemote};
 
-// Limits that a test can wait for.
-const SHORT: Limits = Limits {
+/// Limits that a test can wait for.
+pub const SHORT: Limits = Limits {
     connect: 2_000,
     wait: 400,
     whole: 1_000,
     pause: 1_500,
 };
 
-// A listener at a free port, and its number.
-fn listen(rt: &HostRuntime) -> Option<(TcpListener, u16)> {
+/// A listener at a free port, and its number.
+pub fn listen(rt: &HostRuntime) -> Option<(TcpListener, u16)> {
     let address = SocketAddr::V4(SocketAddrV4::new(Ipv4Addr::LOCALHOST, 0));
     let listener = rt.bind(address).ok()?;
     let port = listener.local_addr().ok()?.port();
@@ -149,15 +149,15 @@ fn connections(listener: &TcpListener) -> u64 {
     100
 }
 
-fn exchange_fails<R: Remote>(alloc: Global, remote: &mut R, port: u16) -> bool {
+fn exchange_fails<R: Remote>(alloc: Global, remote: &mut R, host: &str, port: u16) -> bool {
     matches!(
-        remote.exchange(alloc, "127.0.0.1", port, b"GET / HTTP/1.1\r\n\r\n", 100),
+        remote.exchange(alloc, host, port, b"GET / HTTP/1.1\r\n\r\n", 100),
         Err(RemoteFault::Failed)
     )
 }
 
-fn both_fail<R: Remote>(alloc: Global, remote: &mut R, port: u16) -> bool {
-    exchange_fails(alloc, remote, port) && exchange_fails(alloc, remote, port)
+fn both_fail<R: Remote>(alloc: Global, remote: &mut R, host: &str, port: u16) -> bool {
+    exchange_fails(alloc, remote, host, port) && exchange_fails(alloc, remote, host, port)
 }
 
 // Whether an exchange fails once its time is over.
@@ -165,7 +165,7 @@ fn fails_late<R: Remote>(rt: &HostRuntime, remote: &mut R, port: u16) -> bool {
     let Ok(begin) = Instant::now(rt) else {
         return false;
     };
-    let failed = exchange_fails(rt.alloc(), remote, port);
+    let failed = exchange_fails(rt.alloc(), remote, "127.0.0.1", port);
     match begin.elapsed(rt) {
         Ok(waited) => failed && waited.as_millis() >= 350,
         Err(_) => false,
@@ -177,10 +177,10 @@ fn is_left_alone(rt: &HostRuntime) -> Option<bool> {
     let (listener, port) = listen(rt)?;
     let mut remote = TcpRemote::new(rt.alloc(), rt, SHORT);
     let first = fails_late(rt, &mut remote, port);
-    let others = both_fail(rt.alloc(), &mut remote, port);
+    let others = both_fail(rt.alloc(), &mut remote, "127.0.0.1", port);
     let asked = connections(&listener);
     thread::sleep(rt, Duration::from_millis(1_600));
-    let later = both_fail(rt.alloc(), &mut remote, port);
+    let later = both_fail(rt.alloc(), &mut remote, "127.0.0.1", port);
     let again = connections(&listener);
     Some(first && others && asked == 2 && later && again == 1 && remote.faults() == 5)
 }
@@ -190,6 +190,20 @@ fn is_left_alone(rt: &HostRuntime) -> Option<bool> {
 #[test]
 fn a_silent_server_is_left_alone(rt: HostRuntime) {
     assert!(rt; is_left_alone(&rt) == Some(true));
+}
+
+// Whether a host is asked though another one, whose port has the same number, is left alone. Nobody listens there.
+fn is_asked_alone(rt: &HostRuntime) -> Option<bool> {
+    let (listener, port) = listen(rt)?;
+    let mut remote = TcpRemote::new(rt.alloc(), rt, SHORT);
+    let first = both_fail(rt.alloc(), &mut remote, "127.0.0.2", port);
+    let other = exchange_fails(rt.alloc(), &mut remote, "127.0.0.1", port);
+    Some(first && other && connections(&listener) == 1)
+}
+
+#[test]
+fn the_trouble_of_a_host_is_its_own(rt: HostRuntime) {
+    assert!(rt; is_asked_alone(&rt) == Some(true));
 }
 
 fn are_faults(rt: &HostRuntime) -> Option<bool> {

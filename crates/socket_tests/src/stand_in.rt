@@ -24,6 +24,9 @@ pub struct Done {
     pub given: usize,
     pub begun: usize,
     pub more: usize,
+    /// How many bytes were written, and a number by them and their order.
+    pub written: usize,
+    pub print: u64,
     /// That writes go out at once, how long a read and a write may wait, in milliseconds, and how often the former was told.
     pub at_once: bool,
     pub read: u128,
@@ -31,11 +34,13 @@ pub struct Done {
     pub told: usize,
 }
 
-/// The errors of the listener's first calls, 0 where one is to accept a connection; and what the reads of a connection give.
+/// The errors of the listener's first calls, 0 where one is to accept a connection; what the reads of a connection give; and how
+/// many bytes a write takes at most.
 #[derive(Drop)]
 pub struct Script<'a> {
     errors: &'a [i32],
     pieces: &'a [&'a [u8]],
+    pub takes: usize,
     pub does: Cell<Does>,
     pub done: Cell<Done>,
 }
@@ -45,6 +50,7 @@ impl<'a> Script<'a> {
         Script {
             errors,
             pieces,
+            takes: usize::MAX,
             does: Cell::new(Does(false, true, 0)),
             done: Cell::new(Done::default()),
         }
@@ -113,6 +119,23 @@ impl<'a> Net for StandIn<'a> {
             script: self.script,
         })
     }
+
+    fn connect_timeout(&self, address: SocketAddr, longest: Duration) -> io::Result<Scripted<'a>> {
+        let stream = self.rt.connect_timeout(address, longest)?;
+        Ok(Scripted {
+            stream,
+            script: self.script,
+        })
+    }
+}
+
+/// A number by these bytes and their order, after others that have this one.
+pub fn print_of(before: u64, bytes: &[u8]) -> u64 {
+    let mut print = before;
+    for byte in bytes {
+        print = print.wrapping_mul(31).wrapping_add(u64::from(*byte));
+    }
+    print
 }
 
 /// A listener that fails with some errors first.
@@ -238,11 +261,15 @@ impl Read for Scripted<'_> {
 
 impl Write for Scripted<'_> {
     fn write(&mut self, piece: &[u8]) -> io::Result<usize> {
-        if self.script.does.get().1 {
-            Ok(piece.len())
-        } else {
-            Err(io::Error::from(ErrorKind::WouldBlock))
+        if !self.script.does.get().1 {
+            return Err(io::Error::from(ErrorKind::WouldBlock));
         }
+        let count = piece.len().min(self.script.takes);
+        let mut done = self.script.done.get();
+        done.written = done.written.saturating_add(count);
+        done.print = print_of(done.print, &piece[..count]);
+        self.script.done.set(done);
+        Ok(count)
     }
 
     fn flush(&mut self) -> io::Result<()> {

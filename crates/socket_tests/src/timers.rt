@@ -12,7 +12,7 @@ fn is_held<P: Pace>(rt: &HostRuntime, pace: &mut P, running: &Running) -> bool {
     running.end_one();
     let second = pace.pause(0);
     running.end_one();
-    let over = !pace.pause(3_600);
+    let over = !running.is_any() && !pace.pause(3_600);
     first && waited >= 900 && second && over && moment(rt).saturating_sub(begin) < 60_000
 }
 

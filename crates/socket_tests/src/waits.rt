@@ -144,6 +144,25 @@ fn a_slow_peer_is_given_up(rt: HostRuntime) {
     assert!(rt; goes_so(&rt, &rt, &pieces, &ran(&REFUSED)));
 }
 
+const IN_EIGHT_SECONDS: Step = Step::Does(Does(false, true, 4_000));
+
+static TWO_SLOW_ONES: [Step; 7] = [
+    IN_EIGHT_SECONDS,
+    PUTS,
+    Step::Gives(b"abc"),
+    TELLS,
+    PUTS,
+    Step::Gives(b"abc"),
+    TELLS,
+];
+
+// Each request has its time, whatever those before it took.
+#[test]
+fn each_request_has_its_time(rt: HostRuntime) {
+    let pieces = [HEAD, b"abc", HEAD, b"abc"];
+    assert!(rt; goes_so(&rt, &rt, &pieces, &ran(&TWO_SLOW_ONES)));
+}
+
 static ANSWERED: [Act; 3] = [Act::Client(b"x"), Act::Runs(&ONE), Act::Shows(".")];
 
 static UNANSWERED: [Act; 3] = [Act::Client(b"x"), Act::Runs(&[GETS, ENDS]), Act::Shows("x")];
