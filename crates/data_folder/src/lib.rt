@@ -8,5 +8,5 @@ mod reporting;
 
 pub use disk::FolderDisk;
 pub use lock::LockFile;
-pub use opening::{blobs_in, open_disk};
+pub use opening::{blobs_in, find_disk, open_disk};
 pub use reporting::ReportingDisk;

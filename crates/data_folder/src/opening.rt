@@ -10,7 +10,19 @@ use record_disk::FileDisk;
 use record_log::MAGIC;
 use std::alloc::AllocError;
 use std::fs::{self, File, Files, OpenFile, OpenOptions};
-use std::io::{self, ErrorKind};
+use std::io::{self, Eprint, ErrorKind};
+
+// Says on standard error what could not be done with a path, and why. Out of memory has a status of its own.
+fn told<R: Eprint, T: Drop>(rt: &R, tried: &str, path: &str, did: io::Result<T>) -> io::Result<T>
+    ensures { result ≡ did }
+{
+    if let Err(error) = &did
+        && error.kind() != ErrorKind::OutOfMemory
+    {
+        let _ = eprintln!(rt; "mvnrepod: cannot {tried} {path}: {error}");
+    }
+    did
+}
 
 // Makes a folder that is missing. Its name is kept before it returns: `..` of a folder is the one that has its name. So is
 // that of a folder which stood before, since an earlier run may have stopped right after making it; but where the one above
@@ -36,11 +48,26 @@ fn open_file<R: Files>(rt: &R, path: &str) -> io::Result<R::File> {
     how.open(rt, path)
 }
 
-// The lock of a folder. It fails where another process has it.
-fn lock_of<F: LockFile, R: Files<File = F> + AllocGlobal>(rt: &R, folder: &str) -> io::Result<F> {
+// Takes the lock of a file at a path.
+fn take_lock<F: LockFile, R: Eprint>(rt: &R, lock: &F, path: &str) -> io::Result<()> {
+    match lock.try_lock() {
+        Err(error) if error.kind() == ErrorKind::WouldBlock => {
+            let _ = eprintln!(rt; "mvnrepod: cannot lock {path}: another process has it");
+            Err(error)
+        }
+        locked => told(rt, "lock", path, locked),
+    }
+}
+
+// The lock of a folder. It fails if another process has it.
+fn lock_of<F: LockFile + Drop, R: Files<File = F> + AllocGlobal + Eprint>(
+    rt: &R,
+    folder: &str,
+) -> io::Result<F> {
     let path = format!(in rt.alloc(); "{folder}/lock")?;
-    let lock = open_file(rt, path.as_str())?;
-    lock.try_lock()?;
+    let opened = open_file(rt, path.as_str());
+    let lock = told(rt, "open", path.as_str(), opened)?;
+    take_lock(rt, &lock, path.as_str())?;
     Ok(lock)
 }
 
@@ -83,32 +110,68 @@ fn has_contents_alone<R: Files + AllocGlobal + Clone + Drop>(
     }
 }
 
-fn locked_disk<F: LockFile + Drop, R: Files<File = F> + AllocGlobal + Clone + Drop>(
+// Fails if a folder has contents alone, or that is not known.
+fn refuse_contents_alone<R: Files + AllocGlobal + Eprint + Clone + Drop>(
+    rt: &R,
+    folder: &str,
+    rows: &str,
+) -> io::Result<()> {
+    let alone = has_contents_alone(rt, folder, rows);
+    if told(rt, "look at", rows, alone)? {
+        let _ = eprintln!(rt;
+            "mvnrepod: cannot open {rows}: it is missing or has no beginning, and {folder}/blobs has contents"
+        );
+        return Err(io::Error::from(ErrorKind::NotFound));
+    }
+    Ok(())
+}
+
+// The folder of the contents, made if it is missing, and without what stopped runs have left in it.
+fn make_blobs<R: Files + AllocGlobal + Eprint + Clone + Drop>(
+    rt: &R,
+    blobs: &str,
+) -> io::Result<()> {
+    told(rt, "make the folder", blobs, make_folder(rt, blobs))?;
+    told(rt, "read the folder", blobs, clear_parts(rt, blobs))
+}
+
+fn locked_disk<F: LockFile + Drop, R: Files<File = F> + AllocGlobal + Eprint + Clone + Drop>(
     rt: &R,
     folder: &str,
 ) -> io::Result<FolderDisk<F>>
     ensures { IfOk result (λ disk. faults_of disk ≡ 0) }
 {
-    make_folder(rt, folder)?;
+    told(rt, "make the folder", folder, make_folder(rt, folder))?;
     let lock = lock_of(rt, folder)?;
     let blobs = format!(in rt.alloc(); "{folder}/blobs")?;
-    make_folder(rt, blobs.as_str())?;
-    clear_parts(rt, blobs.as_str())?;
+    make_blobs(rt, blobs.as_str())?;
     let rows = format!(in rt.alloc(); "{folder}/rows")?;
-    if has_contents_alone(rt, folder, rows.as_str())? {
-        return Err(io::Error::from(ErrorKind::NotFound));
-    }
-    try_folder(rt, blobs.as_str())?;
-    let file = open_file(rt, rows.as_str())?;
-    let disk = FileDisk::new(file, fs::open(rt, folder)?);
+    refuse_contents_alone(rt, folder, rows.as_str())?;
+    let tried = try_folder(rt, blobs.as_str());
+    told(rt, "make a file in the folder", blobs.as_str(), tried)?;
+    let opened = open_file(rt, rows.as_str());
+    let file = told(rt, "open", rows.as_str(), opened)?;
+    let above = told(rt, "open the folder", folder, fs::open(rt, folder))?;
+    let disk = FileDisk::new(file, above);
     Ok(FolderDisk::Open { disk, lock })
+}
+
+// What stands for the records of a folder that could not be opened.
+fn refused_by<F: LockFile + Drop>(error: io::Error) -> Result<FolderDisk<F>, NoMemory>
+    ensures { IfOk result (λ disk. faults_of disk ≡ 0) }
+{
+    if error.kind() == ErrorKind::OutOfMemory {
+        Err(AllocError)
+    } else {
+        Ok(FolderDisk::Refused { faults: 0 })
+    }
 }
 
 /// The file `rows` of the folder at this path, for as long as nobody else has it. The folder, its folder `blobs` and the
 /// file are made where they are missing; where `blobs` has contents, the file has to have its beginning, of 8 bytes. Else, and
 /// where one of these cannot be made, opened, read or written, in `blobs` no file can be made, or another process has the lock
-/// of the folder, each call of what is given fails and is counted.
-pub fn open_disk<F: LockFile + Drop, R: Files<File = F> + AllocGlobal + Clone + Drop>(
+/// of the folder, a line on standard error says which and why, and each call of what is given fails and is counted.
+pub fn open_disk<F: LockFile + Drop, R: Files<File = F> + AllocGlobal + Eprint + Clone + Drop>(
     rt: &R,
     folder: &str,
 ) -> Result<FolderDisk<F>, NoMemory>
@@ -116,8 +179,20 @@ pub fn open_disk<F: LockFile + Drop, R: Files<File = F> + AllocGlobal + Clone + 
 {
     match locked_disk(rt, folder) {
         Ok(disk) => Ok(disk),
-        Err(error) if error.kind() == ErrorKind::OutOfMemory => Err(AllocError),
-        Err(_) => Ok(FolderDisk::Refused { faults: 0 }),
+        Err(error) => refused_by(error),
+    }
+}
+
+/// The same of a folder that is there. One that is missing is not made, but refused as one that cannot be made is.
+pub fn find_disk<F: LockFile + Drop, R: Files<File = F> + AllocGlobal + Eprint + Clone + Drop>(
+    rt: &R,
+    folder: &str,
+) -> Result<FolderDisk<F>, NoMemory>
+    ensures { IfOk result (λ disk. faults_of disk ≡ 0) }
+{
+    match told(rt, "find the folder", folder, fs::metadata(rt, folder)) {
+        Ok(_) => open_disk(rt, folder),
+        Err(error) => refused_by(error),
     }
 }
 

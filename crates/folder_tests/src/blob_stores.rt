@@ -79,8 +79,38 @@ fn removes_one<B: Blobs>(blobs: &mut B) -> Result<bool, BlobFault> {
     Ok(lists(blobs, &[7])? && lacks(blobs, 10)?)
 }
 
+// Whether a read gives these bytes.
+fn gives<B: Blobs>(
+    blobs: &mut B,
+    held: &B::Held,
+    at: u64,
+    bytes: &[u8],
+) -> Result<bool, BlobFault> {
+    let mut buffer = [0; 2];
+    let count = blobs.read_at(held, at, &mut buffer)?.min(2);
+    Ok(&buffer[..count] == bytes)
+}
+
+// Both are read in turns, the longer one not to its end before the other, and both from the place that was asked.
+fn reads_in_turns<B: Blobs>(blobs: &mut B) -> Result<bool, BlobFault> {
+    match (blobs.adopt(7)?, blobs.adopt(10)?) {
+        (Some(seven), Some(ten)) => Ok(
+            gives(blobs, &seven, 0, b"ab")?
+                && gives(blobs, &ten, 0, b"a")?
+                && gives(blobs, &seven, 2, b"c")?
+                && gives(blobs, &ten, 1, b"")?,
+        ),
+        _ => Ok(false),
+    }
+}
+
 fn keeps_by_number<B: Blobs>(alloc: Global, blobs: &mut B) -> Result<bool, BlobFault> {
-    Ok(stores_two(blobs)? && removes_one(blobs)? && reads_adopted(alloc, blobs)?)
+    Ok(
+        stores_two(blobs)?
+            && reads_in_turns(blobs)?
+            && removes_one(blobs)?
+            && reads_adopted(alloc, blobs)?,
+    )
 }
 
 // Number 7 is taken into use again and read, to its end.

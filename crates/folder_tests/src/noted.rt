@@ -1,4 +1,4 @@
-// The real file system, which notes the calls that open, change or sync something of it, in their order.
+// The real file system, which notes the calls that open, change or sync something of it, in their order. One of them may be refused.
 use data_folder::LockFile;
 use std::alloc::{AllocError, Allocator, Global};
 use std::cell::Cell;
@@ -8,23 +8,54 @@ use std::io::{self, Eprint, ErrorKind, Read, Seek, SeekFrom, Write};
 use std::os::unix::fs::FileExt;
 use std::rc::Rc;
 
+/// A line, and the fault of each call that it notes, which is not made.
+#[derive(Drop)]
+struct Refusal {
+    line: String,
+    kind: ErrorKind,
+}
+
 /// The calls so far, a line for each, which all that share it see.
 #[derive(Drop)]
 pub struct Notes {
     alloc: Global,
     lines: Rc<Cell<String>>,
+    refusal: Option<Refusal>,
 }
 
 impl Notes {
+    /// Of a file system that refuses nothing.
     pub fn new(alloc: Global) -> Result<Notes, AllocError> {
+        Notes::over(alloc, None)
+    }
+
+    /// Of one that refuses each call of this line.
+    pub fn refusing(alloc: Global, line: &str, kind: ErrorKind) -> Result<Notes, AllocError> {
+        let line = String::from_str(alloc, line)?;
+        Notes::over(alloc, Some(Refusal { line, kind }))
+    }
+
+    fn over(alloc: Global, refusal: Option<Refusal>) -> Result<Notes, AllocError> {
         let lines = Rc::new(alloc, Cell::new(String::new(alloc)))?;
-        Ok(Notes { alloc, lines })
+        Ok(Notes {
+            alloc,
+            lines,
+            refusal,
+        })
     }
 
     fn share(&self) -> Result<Notes, AllocError> {
+        let refusal = match &self.refusal {
+            Some(refusal) => Some(Refusal {
+                line: refusal.line.clone()?,
+                kind: refusal.kind,
+            }),
+            None => None,
+        };
         Ok(Notes {
             alloc: self.alloc,
             lines: self.lines.clone()?,
+            refusal,
         })
     }
 
@@ -36,9 +67,14 @@ impl Notes {
         Ok(())
     }
 
-    // A call of this name on a path.
-    fn add_call(&self, name: &str, path: &str) -> Result<(), AllocError> {
-        self.add(format!(in self.alloc; "{name} {path}")?.as_str())
+    // A call of this name on a path, which may be refused.
+    fn add_call(&self, name: &str, path: &str) -> io::Result<()> {
+        let line = format!(in self.alloc; "{name} {path}")?;
+        self.add(line.as_str())?;
+        match &self.refusal {
+            Some(refusal) if line.as_str() == refusal.line.as_str() => Err(refusal.kind.into()),
+            _ => Ok(()),
+        }
     }
 
     /// The lines since they were last taken.
@@ -47,29 +83,19 @@ impl Notes {
     }
 }
 
-/// The file system. It may refuse to open one path, by this kind of fault.
+/// The file system.
 #[derive(Drop)]
 pub struct Noted {
     rt: HostRuntime,
     notes: Notes,
-    pub refusal: Option<(&'static str, ErrorKind)>,
 }
 
 impl Noted {
-    /// One that refuses nothing.
     pub fn new(rt: &HostRuntime, notes: &Notes) -> Result<Noted, AllocError> {
         Ok(Noted {
             rt: rt.clone()?,
             notes: notes.share()?,
-            refusal: None,
         })
-    }
-
-    fn refuse(&self, path: &str) -> io::Result<()> {
-        match self.refusal {
-            Some((refused, kind)) if path == refused => Err(kind.into()),
-            _ => Ok(()),
-        }
     }
 }
 
@@ -78,7 +104,6 @@ impl Clone for Noted {
         Ok(Noted {
             rt: self.rt.clone()?,
             notes: self.notes.share()?,
-            refusal: self.refusal,
         })
     }
 }
@@ -95,8 +120,7 @@ impl Alloc for Noted {
 impl Eprint for Noted {
     fn eprint<D: Display + Drop>(&self, value: D) -> io::Result<()> {
         self.notes
-            .add(format!(in self.rt.alloc(); "say {value}")?.as_str())?;
-        Ok(())
+            .add_call("say", format!(in self.rt.alloc(); "{value}")?.as_str())
     }
 
     fn eprintln<D: Display + Drop>(&self, value: D) -> io::Result<()> {
@@ -124,7 +148,6 @@ impl Files for Noted {
 
     fn open_file(&self, how: &OpenOptions, path: &str) -> io::Result<NotedFile> {
         self.notes.add_call(purpose(how), path)?;
-        self.refuse(path)?;
         Ok(NotedFile {
             file: self.rt.open_file(how, path)?,
             path: String::from_str(self.rt.alloc(), path)?,
@@ -188,7 +211,7 @@ pub struct NotedFile {
 }
 
 impl NotedFile {
-    fn note(&self, name: &str) -> Result<(), AllocError> {
+    fn note(&self, name: &str) -> io::Result<()> {
         self.notes.add_call(name, self.path.as_str())
     }
 }

@@ -2,7 +2,8 @@
 use crate::blob_stores::{self, is_so};
 use crate::noted::{Noted, Notes};
 use crate::places::{clears, holds, makes, puts, stands};
-use data_folder::{blobs_in, open_disk};
+use data_folder::{blobs_in, find_disk, open_disk};
+use outside_system::file_source;
 use record_disk::Disk;
 use std::alloc::AllocError;
 use std::fs;
@@ -30,17 +31,15 @@ fn refuses(rt: &HostRuntime, folder: &str) -> bool {
     }
 }
 
-// Whether a folder opens where this path is refused so.
+// Whether a folder opens where this call is refused so.
 fn opens_without(
     rt: &HostRuntime,
     folder: &str,
-    path: &'static str,
+    call: &str,
     kind: ErrorKind,
 ) -> Result<bool, AllocError> {
-    let notes = Notes::new(rt.alloc())?;
-    let mut noted = Noted::new(rt, &notes)?;
-    noted.refusal = Some((path, kind));
-    match open_disk(&noted, folder) {
+    let notes = Notes::refusing(rt.alloc(), call, kind)?;
+    match open_disk(&Noted::new(rt, &notes)?, folder) {
         Ok(mut disk) => Ok(is_open(&mut disk)),
         Err(_) => Ok(false),
     }
@@ -50,7 +49,7 @@ const BELOW: &str = "folder_tests_below";
 
 // Whether it opens, or is refused, where the folder above it is refused so.
 fn opens_under(rt: &HostRuntime, kind: ErrorKind, wanted: bool) -> bool {
-    match opens_without(rt, BELOW, "folder_tests_below/..", kind) {
+    match opens_without(rt, BELOW, "open folder_tests_below/..", kind) {
         Ok(opened) => opened == wanted,
         Err(_) => false,
     }
@@ -189,7 +188,7 @@ const WRITES: &str = "folder_tests_writes";
 
 // Whether a folder opens, or is refused, where no content can be stored.
 fn opens_unwritable(rt: &HostRuntime, kind: ErrorKind, wanted: bool) -> bool {
-    match opens_without(rt, WRITES, "folder_tests_writes/blobs/new.part", kind) {
+    match opens_without(rt, WRITES, "make folder_tests_writes/blobs/new.part", kind) {
         Ok(opened) => opened == wanted,
         Err(_) => false,
     }
@@ -271,4 +270,97 @@ fn a_file_is_no_folder(rt: HostRuntime) {
     assert!(rt; puts(&rt, NO_FOLDER, b"abc"));
     assert!(rt; has_no_size(&rt));
     assert!(rt; fs::remove_file(&rt, NO_FOLDER).is_ok());
+}
+
+const MISSING: &str = "folder_tests_missing";
+
+// Whether a folder is opened which has to be there.
+fn is_found(rt: &HostRuntime) -> bool {
+    match find_disk(rt, MISSING) {
+        Ok(mut disk) => is_open(&mut disk),
+        Err(_) => false,
+    }
+}
+
+// A folder that has to be there is not made, and opened once it is there.
+#[test]
+fn a_folder_that_has_to_be_there_is_not_made(rt: HostRuntime) {
+    let _ = clears(&rt, MISSING);
+    assert!(rt; !is_found(&rt));
+    assert!(rt; !stands(&rt, MISSING));
+    assert!(rt; makes(&rt, MISSING));
+    assert!(rt; is_found(&rt));
+    assert!(rt; clears(&rt, MISSING));
+}
+
+const TOLD: &str = "folder_tests_told";
+
+// Whether a folder is refused if this call is not permitted, and the last line says so.
+fn tells(rt: &HostRuntime, call: &str, line: &str) -> Result<bool, AllocError> {
+    let notes = Notes::refusing(rt.alloc(), call, ErrorKind::PermissionDenied)?;
+    let refused = match open_disk(&Noted::new(rt, &notes)?, TOLD) {
+        Ok(mut disk) => !is_open(&mut disk),
+        Err(_) => false,
+    };
+    let said = notes.take();
+    Ok(refused && said.as_str().ends_with(line))
+}
+
+fn tells_so(rt: &HostRuntime, call: &str, line: &str) -> bool {
+    matches!(tells(rt, call, line), Ok(true))
+}
+
+const NO_LOCK: &str = "say mvnrepod: cannot open folder_tests_told/lock: permission denied\n";
+
+const NO_ROWS: &str = "say mvnrepod: cannot open folder_tests_told/rows: permission denied\n";
+
+const NO_FILE: &str =
+    "say mvnrepod: cannot make a file in the folder folder_tests_told/blobs: permission denied\n";
+
+// What cannot be opened is named, with the cause.
+#[test]
+fn a_refusal_names_its_cause(rt: HostRuntime) {
+    let _ = clears(&rt, TOLD);
+    assert!(rt; tells_so(&rt, "open to write folder_tests_told/lock", NO_LOCK));
+    assert!(rt; tells_so(&rt, "make folder_tests_told/blobs/new.part", NO_FILE));
+    assert!(rt; tells_so(&rt, "open to write folder_tests_told/rows", NO_ROWS));
+    assert!(rt; clears(&rt, TOLD));
+}
+
+const IN_USE: &str =
+    "say mvnrepod: cannot lock folder_tests_told_lock/lock: another process has it\n";
+
+// Whether a folder that another one has open is refused, and the last line says so.
+fn tells_of_another(rt: &HostRuntime) -> Result<bool, AllocError> {
+    let folder = "folder_tests_told_lock";
+    let _first = open_disk(rt, folder)?;
+    let notes = Notes::new(rt.alloc())?;
+    let _second = open_disk(&Noted::new(rt, &notes)?, folder)?;
+    let said = notes.take();
+    Ok(said.as_str().ends_with(IN_USE))
+}
+
+#[test]
+fn a_folder_in_use_is_told(rt: HostRuntime) {
+    assert!(rt; matches!(tells_of_another(&rt), Ok(true)));
+    assert!(rt; clears(&rt, "folder_tests_told_lock"));
+}
+
+const SETTINGS: &str = "folder_tests_settings";
+
+const NO_SETTINGS: &str =
+    "open folder_tests_settings\nsay mvnrepod: cannot read folder_tests_settings: permission denied\n";
+
+// Whether settings that may not be read are named.
+fn tells_of_settings(rt: &HostRuntime) -> Result<bool, AllocError> {
+    let call = "open folder_tests_settings";
+    let notes = Notes::refusing(rt.alloc(), call, ErrorKind::PermissionDenied)?;
+    let _source = file_source(&Noted::new(rt, &notes)?, SETTINGS);
+    let said = notes.take();
+    Ok(said.as_str() == NO_SETTINGS)
+}
+
+#[test]
+fn settings_that_may_not_be_read_are_told(rt: HostRuntime) {
+    assert!(rt; matches!(tells_of_settings(&rt), Ok(true)));
 }

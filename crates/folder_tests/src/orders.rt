@@ -1,11 +1,13 @@
-// The calls of a real file system, in their order: what is acknowledged was synced before, with its name. A disk whose calls are
-// noted is made in one function, which lends it to small ones that know its trait alone.
+// The calls of a real file system, in their order: what is acknowledged was synced before, with its name. Each of them may be
+// refused, and then nothing is acknowledged. A disk whose calls are noted is made in one function, which lends it to small ones
+// that know its trait alone.
 use crate::noted::{Noted, Notes};
 use crate::places::{clears, makes, puts};
 use data_folder::{ReportingDisk, open_disk};
 use outside::Failed;
 use record_disk::{Disk, DiskRoom, DiskScript, MemDisk};
 use std::alloc::AllocError;
+use std::io::ErrorKind;
 
 // Whether these are the calls since they were last looked at. Others are written to standard error.
 pub fn are(rt: &HostRuntime, notes: &Notes, lines: &str) -> bool {
@@ -109,10 +111,47 @@ fn does_well(rt: &HostRuntime, folder: &str, way: Way) -> bool {
     matches!(does(rt, folder, way), Ok(true))
 }
 
+// Whether a disk of which this call is refused acknowledges no change. What was not synced is not acknowledged later either; a
+// line that cannot be said stops nothing.
+fn is_stopped<D: Disk>(disk: &mut D, call: &str) -> bool {
+    let changed = change(disk).is_ok();
+    let synced = disk.sync().is_ok();
+    if call.starts_with("say") {
+        return changed;
+    }
+    !changed && !(synced && call.starts_with("sync"))
+}
+
+fn stops_at(rt: &HostRuntime, folder: &str, call: &str) -> Result<bool, AllocError> {
+    let notes = Notes::refusing(rt.alloc(), call, ErrorKind::TimedOut)?;
+    let noted = Noted::new(rt, &notes)?;
+    let mut disk = ReportingDisk::new(open_disk(&noted, folder)?, noted);
+    Ok(is_stopped(&mut disk, call))
+}
+
+// The first of these calls that is passed over where it is refused, of a folder that stays or is made anew each time.
+fn passed_over(
+    rt: &HostRuntime,
+    folder: &str,
+    stays: bool,
+    calls: &'static str,
+) -> Option<&'static str> {
+    for call in calls.lines() {
+        if !stays {
+            let _ = clears(rt, folder);
+        }
+        if !matches!(stops_at(rt, folder, call), Ok(true)) {
+            return Some(call);
+        }
+    }
+    None
+}
+
 #[test]
 fn a_new_folder_is_synced(rt: HostRuntime) {
     let _ = clears(&rt, "orders_new");
     assert!(rt; does_well(&rt, "orders_new", Way::New));
+    assert_eq!(rt; passed_over(&rt, "orders_new", false, NEW_FOLDER), None);
     assert!(rt; clears(&rt, "orders_new"));
 }
 
@@ -122,6 +161,7 @@ fn a_folder_that_was_there_is_synced(rt: HostRuntime) {
     assert!(rt; makes(&rt, "orders_old") && makes(&rt, "orders_old/blobs"));
     assert!(rt; puts(&rt, "orders_old/rows", b"MVNROWS1\0"));
     assert!(rt; does_well(&rt, "orders_old", Way::Old));
+    assert_eq!(rt; passed_over(&rt, "orders_old", true, OLD_FOLDER), None);
     assert!(rt; clears(&rt, "orders_old"));
 }
 
@@ -129,6 +169,7 @@ fn a_folder_that_was_there_is_synced(rt: HostRuntime) {
 fn records_are_synced(rt: HostRuntime) {
     let _ = clears(&rt, "orders_rows");
     assert!(rt; does_well(&rt, "orders_rows", Way::Changed));
+    assert_eq!(rt; passed_over(&rt, "orders_rows", false, CHANGES), None);
     assert!(rt; clears(&rt, "orders_rows"));
 }
 

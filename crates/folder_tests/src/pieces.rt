@@ -1,5 +1,5 @@
-// The calls of a real file system for blobs, which are written and read whole or piece by piece. A store whose calls are noted is
-// made in one function, which lends it to small ones that know its trait alone.
+// The calls of a real file system for blobs, which are written and read whole or piece by piece, and each of which may be refused.
+// A store whose calls are noted is made in one function, which lends it to small ones that know its trait alone.
 ghost use Rattle.std.specs.Prelude.{◌≡◌, IfOk, false};
 
 use crate::blob_stores::{Counted, has_failed, is_so, lacks, lists};
@@ -12,6 +12,7 @@ use outside_memory::{read_whole, store_whole};
 use outside_system::FolderBlobs;
 use std::alloc::{AllocError, Global};
 use std::fs;
+use std::io::ErrorKind;
 use std::os::unix::fs::symlink;
 
 // Of a blob that is stored and read whole, an adoption, a list and a removal.
@@ -50,6 +51,19 @@ fn calls_all<B: Counted>(alloc: Global, blobs: &mut B) -> Result<bool, BlobFault
 fn is_synced<B: Counted>(rt: &HostRuntime, notes: &Notes, blobs: &mut B) -> bool {
     let called = is_so(calls_all(rt.alloc(), blobs));
     called && are(rt, notes, BLOB_CALLS)
+}
+
+// Whether a call is told as one that failed, where one of the system's is refused.
+fn is_told<B: Counted>(alloc: Global, blobs: &mut B) -> bool {
+    let failed = has_failed(calls_all(alloc, blobs));
+    failed && blobs.failures() == 1
+}
+
+// Whether it is not known then what stands under 7, nor what is there.
+fn is_unknown<B: Counted>(blobs: &mut B) -> bool {
+    let unknown = has_failed(lacks(blobs, 7));
+    let unlisted = has_failed(lists(blobs, &[7]));
+    unknown && unlisted && blobs.failures() == 2
 }
 
 // Whether what stands under 7 is neither read, adopted nor listed.
@@ -235,12 +249,21 @@ fn is_refused<B: Counted>(blobs: &mut B, number: u64) -> bool {
     has_failed(blobs.begin(number))
 }
 
+// Bytes that are taken, and cannot be synced, are no blob.
+fn is_unsynced<B: Counted>(blobs: &mut B) -> Result<bool, BlobFault> {
+    let mut pen = blobs.begin(10)?;
+    blobs.append(&mut pen, b"abc")?;
+    let sealed = has_failed(blobs.seal(pen));
+    Ok(sealed && lacks(blobs, 10)?)
+}
+
 fn all_fail<B: Counted>(blobs: &mut B) -> bool {
     let full = is_so(is_full(blobs));
     let absent = is_so(is_absent(blobs));
+    let unsynced = is_so(is_unsynced(blobs));
     let made = is_refused(blobs, 8);
     let removed = is_refused(blobs, 9);
-    full && absent && made && removed && blobs.failures() == 5
+    full && absent && unsynced && made && removed && blobs.failures() == 6
 }
 
 // What is looked at of a store.
@@ -252,11 +275,21 @@ enum Way {
     Small,
     Torn,
     Failing,
+    Told,
+    Unknown,
 }
 
-// Whether a store in a folder, whose calls are noted, does as it should.
-fn does(rt: &HostRuntime, folder: &str, way: Way) -> Result<bool, AllocError> {
-    let notes = Notes::new(rt.alloc())?;
+// Whether a store in a folder, whose calls are noted, does as it should, where this call is refused.
+fn does_where(
+    rt: &HostRuntime,
+    folder: &str,
+    refused: Option<&str>,
+    way: Way,
+) -> Result<bool, AllocError> {
+    let notes = match refused {
+        Some(call) => Notes::refusing(rt.alloc(), call, ErrorKind::TimedOut)?,
+        None => Notes::new(rt.alloc())?,
+    };
     let name = String::from_str(rt.alloc(), folder)?;
     let mut blobs = FolderBlobs::new(Noted::new(rt, &notes)?, name)?;
     match way {
@@ -266,11 +299,25 @@ fn does(rt: &HostRuntime, folder: &str, way: Way) -> Result<bool, AllocError> {
         Way::Small => Ok(is_so(is_read_twice(rt, &notes, &mut blobs))),
         Way::Torn => Ok(is_torn(rt, &mut blobs)),
         Way::Failing => Ok(all_fail(&mut blobs)),
+        Way::Told => Ok(is_told(rt.alloc(), &mut blobs)),
+        Way::Unknown => Ok(is_unknown(&mut blobs)),
     }
 }
 
 fn does_well(rt: &HostRuntime, folder: &str, way: Way) -> bool {
-    matches!(does(rt, folder, way), Ok(true))
+    matches!(does_where(rt, folder, None, way), Ok(true))
+}
+
+// The first of a blob's calls that is passed over where it is refused.
+fn passed_over(rt: &HostRuntime, folder: &str) -> Option<&'static str> {
+    for call in BLOB_CALLS.lines() {
+        let told = makes(rt, folder)
+            && matches!(does_where(rt, folder, Some(call), Way::Told), Ok(true));
+        if !told {
+            return Some(call);
+        }
+    }
+    None
 }
 
 // The same in a folder that is removed then.
@@ -281,6 +328,22 @@ fn ends_well(rt: &HostRuntime, folder: &str, way: Way) -> bool {
 #[test]
 fn a_blob_is_synced_and_then_its_name(rt: HostRuntime) {
     assert!(rt; makes(&rt, "orders_blobs") && ends_well(&rt, "orders_blobs", Way::Synced));
+    assert_eq!(rt; passed_over(&rt, "orders_blobs"), None);
+    assert!(rt; clears(&rt, "orders_blobs"));
+}
+
+// A look that is refused finds neither that a blob is there nor that it is not.
+#[test]
+fn a_refused_look_tells_nothing(rt: HostRuntime) {
+    let refused = Some("look at pieces_unknown/7");
+    assert!(rt; makes(&rt, "pieces_unknown") && puts(&rt, "pieces_unknown/7", b"abc"));
+    assert!(rt;
+        matches!(
+            does_where(&rt, "pieces_unknown", refused, Way::Unknown),
+            Ok(true)
+        )
+    );
+    assert!(rt; clears(&rt, "pieces_unknown"));
 }
 
 #[test]
@@ -311,6 +374,7 @@ fn a_torn_body_leaves_no_blob(rt: HostRuntime) {
 fn each_call_of_a_pen_may_fail(rt: HostRuntime) {
     assert!(rt; makes(&rt, "pieces_failing"));
     assert!(rt; symlink(&rt, "/dev/full", "pieces_failing/7.part").is_ok());
+    assert!(rt; symlink(&rt, "/dev/null", "pieces_failing/10.part").is_ok());
     assert!(rt; makes(&rt, "pieces_failing/8.part") && makes(&rt, "pieces_failing/9"));
     assert!(rt; does_well(&rt, "pieces_failing", Way::Failing));
     assert!(rt; !stands(&rt, "pieces_failing/9.part"));

@@ -13,7 +13,7 @@ fn show(rt: &impl Print, path: &str, settings: &Settings) -> io::Result<()> {
 }
 
 // One line on what a file says.
-fn report(rt: &(impl Files + AllocGlobal + Print), path: &str) -> io::Result<()> {
+fn report(rt: &(impl Files + AllocGlobal + Print + Eprint), path: &str) -> io::Result<()> {
     let mut source = file_source(rt, path);
     match read_from(rt.alloc(), &mut source) {
         Ok(settings) => show(rt, path, &settings),
@@ -28,7 +28,7 @@ fn report(rt: &(impl Files + AllocGlobal + Print), path: &str) -> io::Result<()>
 
 /// Prints a line on what each of these files says.
 pub(crate) fn report_all(
-    rt: &(impl Files + AllocGlobal + Print),
+    rt: &(impl Files + AllocGlobal + Print + Eprint),
     paths: &[String],
 ) -> io::Result<()> {
     for path in paths {

@@ -1,7 +1,7 @@
 //! Runs over a folder.
 use crate::runs::status_of_run;
 use crate::stock::{cleaner_over, desks_with};
-use data_folder::{ReportingDisk, blobs_in, open_disk};
+use data_folder::{ReportingDisk, blobs_in, find_disk};
 use outside::NoMemory;
 use outside_memory::MemLink;
 use outside_system::{SystemClock, WriterSink, file_source};
@@ -10,7 +10,7 @@ use repo_run::Wanted;
 use std::sync::Wait;
 use std::thread::Threads;
 
-/// The status of a run over the folder that the words name. Its lines go to standard output.
+/// The status of a run over the folder that the words name, which has to be there. Its lines go to standard output.
 pub fn status_over_folder<R: Threads + Wait + Sync>(
     threads: &R,
     rt: &HostRuntime,
@@ -23,7 +23,7 @@ pub fn status_over_folder<R: Threads + Wait + Sync>(
     let links: Vec<MemLink> = Vec::new(alloc);
     let desks = desks_with(alloc, links, blobs_in(rt, folder)?)?;
     let cleaner = cleaner_over(alloc, blobs_in(rt, folder)?)?;
-    let records = Journal::new(ReportingDisk::new(open_disk(rt, folder)?, rt.clone()?));
+    let records = Journal::new(ReportingDisk::new(find_disk(rt, folder)?, rt.clone()?));
     let clock = SystemClock::new(rt.clone()?);
     let mut out = WriterSink::new(rt.stdout());
     Ok(status_of_run(

@@ -1,5 +1,5 @@
 // Checks and cleanings of a real folder.
-use crate::stock::{LATER, ends_with, has, lacks, make_folder, put};
+use crate::stock::{LATER, ends_with, has, lacks, leaves_missing, make_folder, put};
 use data_folder::open_disk;
 use record_journal::Journal;
 use row_tables::Records;
@@ -82,6 +82,17 @@ fn contents_without_records_are_refused(rt: HostRuntime) -> Result<(), Fail> {
     assert!(rt; all_refuse(&rt, &rt, folder));
     fs::remove_file(&rt, "work_tests_alone/rows")?;
     assert!(rt; all_refuse(&rt, &rt, folder));
+    fs::remove_dir_all(&rt, folder)?;
+    Ok(())
+}
+
+// A mistyped folder is told, and neither a check nor a cleaning makes it.
+#[test]
+fn a_missing_folder_stays_missing(rt: HostRuntime) -> Result<(), Fail> {
+    let folder = "work_tests_missing";
+    assert!(rt; make_folder(&rt, folder));
+    assert!(rt; leaves_missing(&rt, &rt, "check", folder));
+    assert!(rt; leaves_missing(&rt, &rt, "clean", folder));
     fs::remove_dir_all(&rt, folder)?;
     Ok(())
 }

@@ -75,6 +75,16 @@ pub fn words_over(alloc: Global, command: &str, folder: &str) -> Result<Vec<Stri
     Ok(words)
 }
 
+// The status of a run of these words.
+fn status_of<R: Threads + Wait + Sync>(
+    threads: &R,
+    rt: &HostRuntime,
+    words: &[String],
+) -> Result<u8, AllocError> {
+    let wanted = wanted(rt.alloc(), words)?;
+    status_for(threads, rt, words, &wanted)
+}
+
 fn status_over<R: Threads + Wait + Sync>(
     threads: &R,
     rt: &HostRuntime,
@@ -82,8 +92,20 @@ fn status_over<R: Threads + Wait + Sync>(
     folder: &str,
 ) -> Result<u8, AllocError> {
     let words = words_over(rt.alloc(), command, folder)?;
-    let wanted = wanted(rt.alloc(), words.as_slice())?;
-    status_for(threads, rt, words.as_slice(), &wanted)
+    status_of(threads, rt, words.as_slice())
+}
+
+// The same over what is called `missing` in the folder, by the folder's settings.
+fn status_over_missing<R: Threads + Wait + Sync>(
+    threads: &R,
+    rt: &HostRuntime,
+    command: &str,
+    folder: &str,
+) -> Result<u8, AllocError> {
+    let mut words = words_over(rt.alloc(), command, folder)?;
+    let _folder = words.pop();
+    words.push(path_of(rt.alloc(), folder, "missing")?)?;
+    status_of(threads, rt, words.as_slice())
 }
 
 /// Whether a command over a folder ends with this status.
@@ -96,6 +118,19 @@ pub fn ends_with<R: Threads + Wait + Sync>(
 ) -> bool {
     match status_over(threads, rt, command, folder) {
         Ok(ended) => ended == status,
+        Err(_) => false,
+    }
+}
+
+/// Whether a command over what is missing in a folder ends with status 4, and makes nothing.
+pub fn leaves_missing<R: Threads + Wait + Sync>(
+    threads: &R,
+    rt: &HostRuntime,
+    command: &str,
+    folder: &str,
+) -> bool {
+    match status_over_missing(threads, rt, command, folder) {
+        Ok(ended) => ended == 4 && lacks(rt, folder, "missing"),
         Err(_) => false,
     }
 }
