@@ -23,14 +23,14 @@ pub fn audit<K: Records, B: Blobs>(
     records: &mut K,
     blobs: &mut B,
 ) -> Result<Audit, AuditFault>
-    ensures audit { IfOk result (λ found. (t : Tables) × IsBuiltUp t × IfSome (K.tables records.old) (λ told. t ≡ told)
+    ensures audit { IfOk result (λ found. (t : Tables) × IsBuiltUp t × IfSome (K.shows records.old).tables (λ told. t ≡ told)
         × IfSome (K.loading records.old) (λ told. told ≡ Ok t)
         × (found.looked ≡ length (all_rows t)) × AreDamaged (B.shelf blobs.old) (all_rows t) found.damaged.items) }
     ensures loading { IfSome (K.loading records.old) (λ told. RefusesAs told result) }
-    ensures unread { IsUnread result → K.tables records.old ≡ None }
-    ensures cause { HasAuditCause (K.faults records.old) (K.faults records.new) (B.faults blobs.old) (B.faults blobs.new) result }
-    ensures ready { OnOk result (K.ready records.new) }
-    ensures tables { K.tables records.new ≡ K.tables records.old }
+    ensures unread { IsUnread result → (K.shows records.old).tables ≡ None }
+    ensures cause { HasAuditCause (K.shows records.old).faults (K.shows records.new).faults (B.faults blobs.old) (B.faults blobs.new) result }
+    ensures ready { OnOk result (K.shows records.new).IsReady }
+    ensures tables { (K.shows records.new).tables ≡ (K.shows records.old).tables }
     ensures kept { B.shelf blobs.new ≡ B.shelf blobs.old }
 {
     let tables = records.load(alloc)?;

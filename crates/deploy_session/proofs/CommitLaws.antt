@@ -17,9 +17,7 @@ use Rattle.repo_model.specs.Prints.{recorded_print}
 use Rattle.repo_model.specs.Effect.{Effect, ends, items_of, list_again, new_row, recorded, with_row}
 use Rattle.repo_model.specs.Reply as reply
 use Rattle.repo_model.specs.State.{change_first, change_where, is_open_at, is_row, is_session, most_staged, number_end, row_at}
-use Rattle.repo_model.specs.Tables.{Tables}
 use Rattle.repo_model.specs.Turn.{Turn, commit_by, commit_of, with_open}
-use Rattle.row_tables.specs.Commits.{tables_with}
 use Rattle.row_tables.specs.Items.{is_item, is_number}
 use Rattle.hosted_delivery.specs.Deliveries.{is_done, is_recordable, left_by, session_with, shown_put_all}
 use Rattle.ordered_rows.specs.Rows.{rows_after_all}
@@ -30,10 +28,6 @@ use Rattle.deploy_session.specs.Known.{Known, commit_turn, garbage_by, has_recor
 use Rattle.deploy_session.proofs.SessionLaws.{after-append, aborted, given_up}
 
 -- ---- what stands against a commit, or nothing
-pub told_same : (t : Option Tables) → t ≡ tables_with [] t
-told_same None = refl
-told_same (Some t) = refl
-
 -- the reply is the same for sessions with the same files
 pub reply-alike : (one other : Session) (now : ℕ) (rows : List Row) (a : Option Offence) (b : Option (List ℕ)) → one.staged ≡ other.staged → (commit_by one now rows a b).reply ≡ (commit_by other now rows a b).reply
 reply-alike one other now rows (Some o) b same = refl

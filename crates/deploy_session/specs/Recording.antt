@@ -1,6 +1,5 @@
--- What calls that record need of the records, and what they answer where that fails.
+-- What calls that record answer where that fails.
 use Rattle.repo_model.specs.Reply.{Reply, no_memory, store_fault}
-pub use Rattle.ordered_rows.specs.Recording.{FitWhereTold, HasReplyCause}
 use Rattle.row_tables.specs.declared.faults.CommitFault.{CommitFault}
 use Rattle.row_tables.specs.declared.faults.CommitFault.TheVariants as commit
 

@@ -1,14 +1,11 @@
 //! Sessions that open and end once that is recorded.
-ghost use Rattle.std.specs.Prelude.{◌≡◌, ◌<◌, ◌∷◌, ◌++◌, [], Some, true, find, is_some, IsTrue, IfOk, OnOk, OnErr};
+ghost use Rattle.std.specs.Prelude.{◌≡◌, ◌<◌, ◌∷◌, [], Some, true, find, is_some, IsTrue, IfOk, OnOk, OnErr};
 ghost use Rattle.std.specs.List.{list_all};
 ghost use Rattle.repo_model.specs.declared.item.Item.TheVariants.{SessionOpened, SessionEnded};
 ghost use Rattle.repo_model.specs.Effect.{opens, sessions_after};
 ghost use Rattle.repo_model.specs.State.{is_open_at, change_first, number_end};
-ghost use Rattle.row_tables.specs.Commits.{tables_with};
-ghost use Rattle.row_tables.specs.Records.{HasCommitCause};
-ghost use Rattle.row_tables.specs.Crashes.{HasCommitCrash};
+ghost use Rattle.row_tables.specs.Leaving.{Leaves, MayTake, end_of};
 ghost use Rattle.deploy_session.specs.Known.{is_drawn};
-ghost use Rattle.deploy_session.specs.Recording.{FitWhereTold};
 ghost use Rattle.deploy_session.specs.Shown.{shown_sessions};
 
 use crate::known::{self, Session};
@@ -56,15 +53,10 @@ pub fn begin<H: Held, K: Records>(
     requires first { 0 < number }
     requires last { number < number_end }
     requires drawn { IsTrue (list_all (is_drawn number) (shown_sessions known.old.entries)) }
-    requires ready { K.ready records.old }
-    requires fits { FitWhereTold (K.tables records.old) (SessionOpened number ∷ []) }
+    requires records { MayTake (SessionOpened number ∷ []) (K.shows records.old) }
     ensures ok { OnOk result (shown_sessions known.new.entries ≡ sessions_after (opens number repo.now) (shown_sessions known.old.entries)) }
     ensures err { OnErr result (shown_sessions known.new.entries ≡ shown_sessions known.old.entries) }
-    ensures recorded { OnOk result (K.tables records.new ≡ tables_with (SessionOpened number ∷ []) (K.tables records.old)) }
-    ensures untold { OnErr result (K.tables records.new ≡ K.tables records.old) }
-    ensures cause { HasCommitCause (K.faults records.old) (K.faults records.new) result }
-    ensures crashes { HasCommitCrash (SessionOpened number ∷ []) (K.tables records.old) (K.unsettled records.old) (K.unsettled records.new) result }
-    ensures ready { K.ready records.new }
+    ensures records { Leaves (SessionOpened number ∷ []) (end_of result) (K.shows records.old) (K.shows records.new) }
 {
     let repo = Text::new(alloc, repo)?;
     let change = opened_change(alloc, number)?;
@@ -92,16 +84,11 @@ pub fn give_up<H: Held, K: Records>(
     requires first { 0 < number }
     requires last { number < number_end }
     requires there { is_some (find (is_open_at number) (shown_sessions known.old.entries)) ≡ true }
-    requires ready { K.ready records.old }
-    requires fits { FitWhereTold (K.tables records.old) (SessionEnded number SessionResult.Aborted ∷ []) }
+    requires records { MayTake (SessionEnded number SessionResult.Aborted ∷ []) (K.shows records.old) }
     ensures ok { OnOk result (shown_sessions known.new.entries
         ≡ change_first (is_open_at number) (λ session. record session { staged = []; ended = Some SessionResult.Aborted }) (shown_sessions known.old.entries)) }
     ensures err { OnErr result (known.new.entries ≡ known.old.entries) }
-    ensures recorded { OnOk result (K.tables records.new ≡ tables_with (SessionEnded number SessionResult.Aborted ∷ []) (K.tables records.old)) }
-    ensures untold { OnErr result (K.tables records.new ≡ K.tables records.old) }
-    ensures cause { HasCommitCause (K.faults records.old) (K.faults records.new) result }
-    ensures crashes { HasCommitCrash (SessionEnded number SessionResult.Aborted ∷ []) (K.tables records.old) (K.unsettled records.old) (K.unsettled records.new) result }
-    ensures ready { K.ready records.new }
+    ensures records { Leaves (SessionEnded number SessionResult.Aborted ∷ []) (end_of result) (K.shows records.old) (K.shows records.new) }
 {
     let change = ended_change(alloc, number)?;
     records.commit(alloc, &change)?;

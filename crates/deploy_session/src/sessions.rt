@@ -8,13 +8,11 @@ ghost use Rattle.repo_model.specs.History.{latest_moment};
 ghost use Rattle.repo_model.specs.Reply.{is_free, no_memory, staged};
 ghost use Rattle.repo_model.specs.Shown.{shown_parcel};
 ghost use Rattle.repo_model.specs.State.{is_open, is_open_at, is_session, number_end};
-ghost use Rattle.row_tables.specs.Commits.{tables_with};
-ghost use Rattle.row_tables.specs.Crashes.{HasReplyCrash};
+ghost use Rattle.row_tables.specs.Leaving.{Leaves, MayTake, end_by};
 ghost use Rattle.row_tables.specs.Items.{is_file_path, is_number};
 ghost use Rattle.row_tables.specs.Recorded.{IsBuiltUp};
 ghost use Rattle.ordered_rows.specs.Rows.{rows_after_all};
 ghost use Rattle.deploy_session.specs.Known.{abort_turn, begin_turn, commit_turn, garbage_by, known_after, known_from, stage_turn};
-ghost use Rattle.deploy_session.specs.Recording.{FitWhereTold, HasReplyCause};
 ghost use Rattle.deploy_session.specs.Shown.{blobs_left, blobs_over, shown_abort, shown_begin, shown_commit, shown_files, shown_stage};
 
 use crate::answers::{Abort, Begin, Commit, Stage};
@@ -85,18 +83,12 @@ impl<H: Held> Sessions<H> {
 
     /// Opens a session for the hosted repository of an id, once that is recorded. Where that fails nothing is changed.
     pub fn begin<K: Records>(&mut self, records: &mut K, repo: &str) -> Begin
-        requires ready { K.ready records.old }
-        requires fits { FitWhereTold (K.tables records.old) (recorded (begin_turn self.old repo.now).effects) }
+        requires records { MayTake (recorded (begin_turn self.old repo.now).effects) (K.shows records.old) }
         ensures reply { let turn = begin_turn self.old repo.now in
             (shown_begin result ≡ turn.reply) ⊎ (IsTrue (is_free (shown_begin result)) × (recorded turn.effects ≢ [])) }
         ensures sessions { let turn = begin_turn self.old repo.now in
             self.new ≡ (if is_free (shown_begin result) then self.old else known_after turn.effects self.old) }
-        ensures tables { let turn = begin_turn self.old repo.now in
-            K.tables records.new ≡ (if is_free (shown_begin result) then K.tables records.old else tables_with (recorded turn.effects) (K.tables records.old)) }
-        ensures cause { HasReplyCause (K.faults records.old) (K.faults records.new) (shown_begin result) }
-        ensures crashes { let turn = begin_turn self.old repo.now in
-            HasReplyCrash (recorded turn.effects) (K.tables records.old) (K.unsettled records.old) (K.unsettled records.new) (shown_begin result) }
-        ensures ready { K.ready records.new }
+        ensures records { Leaves (recorded (begin_turn self.old repo.now).effects) (end_by (shown_begin result)) (K.shows records.old) (K.shows records.new) }
     {
         if self.open_count >= MOST_SESSIONS {
             return Begin::TooMany;
@@ -116,20 +108,14 @@ impl<H: Held> Sessions<H> {
     /// Gives the session of a number up, once that is recorded. Where that fails nothing is changed. One that has ended
     /// answers how it ended, and nothing is changed either.
     pub fn abort<K: Records>(&mut self, records: &mut K, session: u64) -> Abort
-        requires ready { K.ready records.old }
-        requires fits { FitWhereTold (K.tables records.old) (recorded (abort_turn self.old session).effects) }
+        requires records { MayTake (recorded (abort_turn self.old session).effects) (K.shows records.old) }
         ensures reply { let turn = abort_turn self.old session in
             (shown_abort result ≡ turn.reply) ⊎ (IsTrue (is_free (shown_abort result)) × (recorded turn.effects ≢ [])) }
         ensures sessions { let turn = abort_turn self.old session in
             self.new ≡ (if is_free (shown_abort result) then self.old else known_after turn.effects self.old) }
         ensures blobs { let turn = abort_turn self.old session in
             blobs_left result ≡ (if is_free (shown_abort result) then [] else flat_map garbage_by turn.effects) }
-        ensures tables { let turn = abort_turn self.old session in
-            K.tables records.new ≡ (if is_free (shown_abort result) then K.tables records.old else tables_with (recorded turn.effects) (K.tables records.old)) }
-        ensures cause { HasReplyCause (K.faults records.old) (K.faults records.new) (shown_abort result) }
-        ensures crashes { let turn = abort_turn self.old session in
-            HasReplyCrash (recorded turn.effects) (K.tables records.old) (K.unsettled records.old) (K.unsettled records.new) (shown_abort result) }
-        ensures ready { K.ready records.new }
+        ensures records { Leaves (recorded (abort_turn self.old session).effects) (end_by (shown_abort result)) (K.shows records.old) (K.shows records.new) }
     {
         let Some(found) = known::session_of(&self.known, session) else {
             return Abort::NoSession;
@@ -160,9 +146,8 @@ impl<H: Held> Sessions<H> {
         now: u64,
     ) -> Commit
         requires moment { now ≤ latest_moment }
-        requires ready { K.ready records.old }
         requires repository { (s : plain.Session) → find (is_open_at session) self.old.sessions ≡ Some s → s.repo ≡ hosted.old.rule.id }
-        requires fits { FitWhereTold (K.tables records.old) (recorded (commit_turn self.old session now hosted.old.rows).effects) }
+        requires records { MayTake (recorded (commit_turn self.old session now hosted.old.rows).effects) (K.shows records.old) }
         ensures reply { let turn = commit_turn self.old session now hosted.old.rows in
             (shown_commit result ≡ turn.reply) ⊎ IsTrue (is_free (shown_commit result)) }
         ensures asked { let turn = commit_turn self.old session now hosted.old.rows in
@@ -173,12 +158,7 @@ impl<H: Held> Sessions<H> {
             hosted.new ≡ (if is_free (shown_commit result) then hosted.old else record hosted.old { rows = rows_after_all turn.effects hosted.old.rows }) }
         ensures blobs { let turn = commit_turn self.old session now hosted.old.rows in
             blobs_over result ≡ (if is_free (shown_commit result) then [] else flat_map garbage_by turn.effects) }
-        ensures tables { let turn = commit_turn self.old session now hosted.old.rows in
-            K.tables records.new ≡ (if is_free (shown_commit result) then K.tables records.old else tables_with (recorded turn.effects) (K.tables records.old)) }
-        ensures cause { HasReplyCause (K.faults records.old) (K.faults records.new) (shown_commit result) }
-        ensures crashes { let turn = commit_turn self.old session now hosted.old.rows in
-            HasReplyCrash (recorded turn.effects) (K.tables records.old) (K.unsettled records.old) (K.unsettled records.new) (shown_commit result) }
-        ensures ready { K.ready records.new }
+        ensures records { Leaves (recorded (commit_turn self.old session now hosted.old.rows).effects) (end_by (shown_commit result)) (K.shows records.old) (K.shows records.new) }
     {
         let Some(found) = known::session_of(&self.known, session) else {
             return Commit::NoSession;

@@ -14,9 +14,8 @@ use Rattle.repo_model.specs.Reply.{Reply, ended, missing_pom, no_memory, offends
 use Rattle.repo_model.specs.Shown.{shown_parcel}
 use Rattle.repo_model.specs.State.{change_where, is_row, row_at}
 use Rattle.repo_model.specs.Turn.{Turn, commit_by}
-use Rattle.repo_model.specs.Tables.{Tables}
 use Rattle.row_tables.specs.Items.{is_count, is_file_path, is_number}
-use Rattle.row_tables.specs.Crashes.{HasNotCommitted, IsCommitted, IsLeftOut, Unsettled}
+use Rattle.row_tables.specs.Leaving.{Leaves, Shown, done, failing, wanting}
 use Rattle.hosted_delivery.specs.declared.judging.Other.{Other}
 use Rattle.hosted_delivery.specs.declared.put_all.PutAll.{PutAll}
 use Rattle.hosted_delivery.specs.declared.put_all.PutAll.TheVariants as did
@@ -55,13 +54,13 @@ abbrev pub is_done : PutAll → Bool
 is_done (did.Done count blobs) = true
 is_done answer = false
 
--- what it leaves unsettled: what a commit of these items does, by its answer, and nothing where something stands against it
-abbrev pub HasPutAllCrash : List Item → Option Tables → Unsettled → Unsettled → PutAll → Type 0
-HasPutAllCrash items told old new (did.Offends path kept sent) = new ≡ old
-HasPutAllCrash items told old new (did.MissingPom dir) = new ≡ old
-HasPutAllCrash items told old new did.StoreFault = HasNotCommitted items told old new
-HasPutAllCrash items told old new did.NoMemory = IsLeftOut told old new
-HasPutAllCrash items told old new (did.Done count blobs) = IsCommitted items told old new
+-- What it leaves of the records: what a call does by which these items were due, and all as it was if something stands against it.
+abbrev pub LeavesDelivery : List Item → PutAll → Shown → Shown → Type 0
+LeavesDelivery items (did.Offends path kept sent) old new = Leaves [] done old new × (new.unsettled ≡ old.unsettled)
+LeavesDelivery items (did.MissingPom dir) old new = Leaves [] done old new × (new.unsettled ≡ old.unsettled)
+LeavesDelivery items did.StoreFault old new = Leaves items failing old new
+LeavesDelivery items did.NoMemory old new = Leaves items wanting old new
+LeavesDelivery items (did.Done count blobs) old new = Leaves items done old new
 
 -- the blobs that no row took
 abbrev pub blobs_of : PutAll → List ℕ
@@ -84,7 +83,7 @@ NamesOther o answer = ⊥
 
 -- nothing stands against it, or the answer says what does, or memory ran out
 abbrev pub IsJudged : List plain.Row → List plain.Staged → Result (Unit {0}) PutAll → Type 0
-IsJudged rows files (Ok done) = (offence rows files ≡ None) × (without_pom rows files ≡ None)
+IsJudged rows files (Ok nothing) = (offence rows files ≡ None) × (without_pom rows files ≡ None)
 IsJudged rows files (Err (did.Offends path kept sent)) = offence rows files ≡ Some (record { path = path; kept = kept; sent = sent })
 IsJudged rows files (Err (did.MissingPom dir)) = (offence rows files ≡ None) × (without_pom rows files ≡ Some dir)
 IsJudged rows files (Err did.NoMemory) = Unit {0}

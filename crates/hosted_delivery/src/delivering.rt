@@ -8,13 +8,11 @@ ghost use Rattle.repo_model.specs.Effect.{recorded as items_by};
 ghost use Rattle.repo_model.specs.History.{latest_moment};
 ghost use Rattle.repo_model.specs.Purge.{most_rows};
 ghost use Rattle.repo_model.specs.Shown.{shown_parcel};
-ghost use Rattle.row_tables.specs.Commits.{tables_with};
+ghost use Rattle.row_tables.specs.Leaving.{Leaves, MayTake, end_of};
 ghost use Rattle.row_tables.specs.Items.{are_of, is_id, is_item, is_of, item_bytes};
 ghost use Rattle.row_tables.specs.declared.version.Version.TheVariants.{Second};
 ghost use Rattle.hosted_delivery.specs.Deliveries.{free_paths, is_recordable, left_by, rows_without, session_with, shown_files, with_file, with_files, with_listed, with_listed_by, without_put, without_puts};
-ghost use Rattle.ordered_rows.specs.Recording.{FitWhereTold, IsShort};
-ghost use Rattle.row_tables.specs.Records.{HasCommitCause};
-ghost use Rattle.row_tables.specs.Crashes.{HasCommitCrash};
+ghost use Rattle.ordered_rows.specs.Recording.{IsShort};
 ghost use Rattle.ordered_rows.specs.Rows.{rows_after_all, shown_at, shown_rows};
 
 use ordered_rows::{CountedRows, Phase, Row, find, print_of, sizes};
@@ -242,17 +240,12 @@ fn add_and_commit<H: Held, K: Records>(
     now: u64,
 ) -> Result<(), CommitFault>
     requires moment { now ≤ latest_moment }
-    requires ready { K.ready records.old }
     requires whole { IsTrue (are_of Second change.now) }
-    requires fits { FitWhereTold (K.tables records.old) change.now }
+    requires records { MayTake change.now (K.shows records.old) }
     ensures ok { OnOk result (rows.new ≡ with_files now (shown_files staged.now.entries) rows.old) }
     ensures back { let free = free_paths rows.old (shown_files staged.now.entries) in
         rows_without free rows.new ≡ rows_without free rows.old }
-    ensures recorded { OnOk result (K.tables records.new ≡ tables_with change.now (K.tables records.old)) }
-    ensures untold { OnErr result (K.tables records.new ≡ K.tables records.old) }
-    ensures cause { HasCommitCause (K.faults records.old) (K.faults records.new) result }
-    ensures crashes { HasCommitCrash change.now (K.tables records.old) (K.unsettled records.old) (K.unsettled records.new) result }
-    ensures ready { K.ready records.new }
+    ensures records { Leaves change.now (end_of result) (K.shows records.old) (K.shows records.new) }
 {
     add_all_new(alloc, rows, staged, now)?;
     records.commit(alloc, change)?;
@@ -290,26 +283,18 @@ pub fn deliver<H: Held, K: Records>(
     now: u64,
 ) -> Result<Vec<u64>, CommitFault>
     requires moment { now ≤ latest_moment }
-    requires ready { K.ready records.old }
     requires repo { IsTrue (is_id repo.now) }
     requires files { IsTrue (list_all is_recordable (shown_files staged.now.entries)) }
     requires few { length (shown_files staged.now.entries) ≤ most_rows }
     requires also { IsTrue (is_item also) }
     requires whole { IsTrue (is_of Second also) }
     requires short { length (item_bytes also) < 65536 }
-    requires fits { FitWhereTold (K.tables records.old)
-        (items_by (deliver_all (session_with repo.now (shown_files staged.now.entries)) now rows.old) ++ also ∷ []) }
+    requires records { MayTake (items_by (deliver_all (session_with repo.now (shown_files staged.now.entries)) now rows.old) ++ also ∷ []) (K.shows records.old) }
     ensures blobs { IfOk result (λ blobs. blobs.items ≡ flat_map left_by (deliver_all (session_with repo.now (shown_files staged.now.entries)) now rows.old)) }
     ensures rows { OnOk result (rows.new
         ≡ rows_after_all (deliver_all (session_with repo.now (shown_files staged.now.entries)) now rows.old) rows.old) }
     ensures err { OnErr result (rows.new ≡ rows.old) }
-    ensures recorded { OnOk result (K.tables records.new
-        ≡ tables_with (items_by (deliver_all (session_with repo.now (shown_files staged.now.entries)) now rows.old) ++ also ∷ []) (K.tables records.old)) }
-    ensures untold { OnErr result (K.tables records.new ≡ K.tables records.old) }
-    ensures cause { HasCommitCause (K.faults records.old) (K.faults records.new) result }
-    ensures crashes { HasCommitCrash (items_by (deliver_all (session_with repo.now (shown_files staged.now.entries)) now rows.old) ++ also ∷ [])
-        (K.tables records.old) (K.unsettled records.old) (K.unsettled records.new) result }
-    ensures ready { K.ready records.new }
+    ensures records { Leaves (items_by (deliver_all (session_with repo.now (shown_files staged.now.entries)) now rows.old) ++ also ∷ []) (end_of result) (K.shows records.old) (K.shows records.new) }
 {
     // Its contract says that each path stands once.
     let _len = staged.len();

@@ -9,12 +9,9 @@ ghost use Rattle.repo_model.specs.Deploy.{deliver_all};
 ghost use Rattle.repo_model.specs.Effect.{recorded as items_by};
 ghost use Rattle.repo_model.specs.History.{latest_moment};
 ghost use Rattle.repo_model.specs.Purge.{most_rows};
-ghost use Rattle.row_tables.specs.Commits.{tables_with};
+ghost use Rattle.row_tables.specs.Leaving.{Leaves, MayTake, end_of};
 ghost use Rattle.row_tables.specs.Items.{is_id, is_item, is_of, item_bytes};
-ghost use Rattle.row_tables.specs.Records.{HasCommitCause};
-ghost use Rattle.row_tables.specs.Crashes.{HasCommitCrash};
 ghost use Rattle.row_tables.specs.declared.version.Version.TheVariants.{Second};
-ghost use Rattle.ordered_rows.specs.Recording.{FitWhereTold};
 ghost use Rattle.ordered_rows.specs.Rows.{rows_after_all, shown_at, shown_rows};
 ghost use Rattle.hosted_delivery.specs.Deliveries.{is_recordable, left_by, session_with, shown_files};
 ghost use Rattle.kept_docs.specs.Kept.{AreOf, AreSame};
@@ -111,27 +108,18 @@ pub fn deliver_all<H: Held, K: Records>(
 ) -> Result<Vec<u64>, CommitFault>
     requires docs { AreOf docs.old rows.old }
     requires moment { now ≤ latest_moment }
-    requires ready { K.ready records.old }
     requires repo { IsTrue (is_id repo.now) }
     requires files { IsTrue (list_all is_recordable (shown_files staged.now.entries)) }
     requires few { length (shown_files staged.now.entries) ≤ most_rows }
     requires also { IsTrue (is_item also) }
     requires whole { IsTrue (is_of Second also) }
     requires short { length (item_bytes also) < 65536 }
-    requires fits { FitWhereTold (K.tables records.old)
-        (items_by (deliver_all (session_with repo.now (shown_files staged.now.entries)) now rows.old) ++ also ∷ []) }
+    requires records { MayTake (items_by (deliver_all (session_with repo.now (shown_files staged.now.entries)) now rows.old) ++ also ∷ []) (K.shows records.old) }
     ensures blobs { IfOk result (λ blobs. blobs.items ≡ flat_map left_by (deliver_all (session_with repo.now (shown_files staged.now.entries)) now rows.old)) }
-    ensures rows { OnOk result (rows.new
-        ≡ rows_after_all (deliver_all (session_with repo.now (shown_files staged.now.entries)) now rows.old) rows.old) }
+    ensures rows { OnOk result (rows.new ≡ rows_after_all (deliver_all (session_with repo.now (shown_files staged.now.entries)) now rows.old) rows.old) }
     ensures err { OnErr result (rows.new ≡ rows.old) }
     ensures docs { AreOf docs.new rows.new }
-    ensures recorded { OnOk result (K.tables records.new
-        ≡ tables_with (items_by (deliver_all (session_with repo.now (shown_files staged.now.entries)) now rows.old) ++ also ∷ []) (K.tables records.old)) }
-    ensures untold { OnErr result (K.tables records.new ≡ K.tables records.old) }
-    ensures cause { HasCommitCause (K.faults records.old) (K.faults records.new) result }
-    ensures crashes { HasCommitCrash (items_by (deliver_all (session_with repo.now (shown_files staged.now.entries)) now rows.old) ++ also ∷ [])
-        (K.tables records.old) (K.unsettled records.old) (K.unsettled records.new) result }
-    ensures ready { K.ready records.new }
+    ensures records { Leaves (items_by (deliver_all (session_with repo.now (shown_files staged.now.entries)) now rows.old) ++ also ∷ []) (end_of result) (K.shows records.old) (K.shows records.new) }
 {
     let pages = pages_of(alloc, docs, rows.map(), staged, now)?;
     match deliver(alloc, rows, records, repo, staged, also, now) {

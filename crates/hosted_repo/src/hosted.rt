@@ -1,35 +1,31 @@
 //! A hosted repository.
-ghost use Rattle.std.specs.Prelude.{◌≡◌, ◌≢◌, ◌<◌, ◌≤◌, ◌-◌, ◌⊎◌, ◌∷◌, ◌++◌, [], if◌then◌else◌, min, None, IfErr, IfOk, OnOk, OnErr, IsTrue, ℕ, List, true, false, length, count_by, map, take, string_bytes};
+ghost use Rattle.std.specs.Prelude.{◌≡◌, ◌≢◌, ◌<◌, ◌≤◌, ◌-◌, ◌⊎◌, ◌∷◌, ◌++◌, [], if◌then◌else◌, min, None, IfOk, OnOk, OnErr, IsTrue, ℕ, List, true, false, length, count_by, map, take, string_bytes};
 ghost use Rattle.std.specs.List.{AllByRecursion, flat_map, list_all};
 ghost use Rattle.std.specs.Option.{option_map};
 ghost use Rattle.mvn_coords.specs.Kind.{kind};
-ghost use Rattle.repo_model.specs.declared.item.Item.TheVariants.{HostedPut, Relisted};
 ghost use Rattle.repo_model.specs.Deploy.{offence, without_pom};
 ghost use Rattle.repo_model.specs.Document.{document};
 ghost use Rattle.repo_model.specs.Effect.{list_again, new_row, recorded, with_row};
 ghost use Rattle.repo_model.specs.History.{latest_moment};
-ghost use Rattle.repo_model.specs.Paths.{FadesRightly, file_in, is_snapshot_path, takes_file};
-ghost use Rattle.repo_model.specs.Prints.{recorded_print};
+ghost use Rattle.repo_model.specs.Paths.{file_in, is_snapshot_path, takes_file};
 ghost use Rattle.repo_model.specs.Purge.{due_rows, expired_of, fade_all, most_rows};
 ghost use Rattle.repo_model.specs.Reply.{created, is_free, relisted};
-ghost use Rattle.repo_model.specs.Shown.{shown_parcel, shown_print};
-ghost use Rattle.repo_model.specs.State.{change_where, is_repository, is_row, number_end, row_at, new_hosted};
+ghost use Rattle.repo_model.specs.Shown.{shown_parcel};
+ghost use Rattle.repo_model.specs.State.{change_where, is_repository, is_row, row_at, new_hosted};
 ghost use Rattle.repo_model.specs.Turn.{seen_at};
-ghost use Rattle.row_tables.specs.Commits.{tables_with};
-ghost use Rattle.row_tables.specs.Items.{is_file_path, is_id, is_item, is_number, is_of, item_bytes};
+ghost use Rattle.row_tables.specs.Leaving.{FitWhereTold, Leaves, MayTake, end_by, end_of};
+ghost use Rattle.row_tables.specs.Items.{is_id, is_item, is_of, item_bytes};
 ghost use Rattle.row_tables.specs.declared.version.Version.TheVariants.{Second};
-ghost use Rattle.hosted_delivery.specs.Deliveries.{HasPutAllCrash, blobs_of, deliveries, delivery, is_done, is_recordable, left_by, shown_files, shown_put_all};
+ghost use Rattle.hosted_delivery.specs.Deliveries.{LeavesDelivery, blobs_of, deliveries, delivery, is_done, is_recordable, left_by, shown_files, shown_put_all};
 ghost use Rattle.hosted_repo.specs.Expired.{blob_of};
-ghost use Rattle.ordered_rows.specs.Recording.{FitWhereTold, HasReplyCause, IsRemoved};
-ghost use Rattle.row_tables.specs.Records.{HasCommitCause};
-ghost use Rattle.row_tables.specs.Crashes.{HasCommitCrash, HasReplyCrash};
+ghost use Rattle.ordered_rows.specs.Recording.{IsRemoved};
 ghost use Rattle.directory_rows.specs.Rules.{shown_rule};
 ghost use Rattle.hosted_repo.specs.Releases.{FadesAt};
 ghost use Rattle.hosted_repo.specs.Releases.{AllFadeRightly};
 ghost use Rattle.kept_docs.specs.Kept.{AreOf};
 ghost use Rattle.ordered_rows.specs.Rows.{AreFiles};
 ghost use Rattle.ordered_rows.specs.Rows.{fades, shown_at, rows_after_all};
-ghost use Rattle.hosted_repo.specs.Puts.{shown_put, put_turn, GivesBack};
+ghost use Rattle.hosted_repo.specs.Puts.{shown_put, put_turn, puts_row, lists_row, GivesBack, IsPut};
 ghost use Rattle.hosted_repo.specs.Seens.{shown_seen, is_of_document};
 
 use crate::put::Put;
@@ -144,22 +140,13 @@ impl<H: Held> Hosted<H> {
         parcel: Parcel<H>,
         now: u64,
     ) -> Put<H>
-        requires moment { now ≤ latest_moment }
-        requires ready { K.ready records.old }
-        requires path { IsTrue (is_file_path path.now) }
-        requires blob { IsTrue (is_number parcel.blob) }
-        requires length { parcel.length < number_end }
-        requires fits { FitWhereTold (K.tables records.old) (recorded (put_turn self.old path.now (shown_parcel parcel) now).effects) }
+        requires form { IsPut path.now (shown_parcel parcel) now }
+        requires records { MayTake (recorded (put_turn self.old path.now (shown_parcel parcel) now).effects) (K.shows records.old) }
         ensures reply { let turn = put_turn self.old path.now (shown_parcel parcel) now in
             (shown_put result ≡ turn.reply) ⊎ (IsTrue (is_free (shown_put result)) × (recorded turn.effects ≢ [])) }
         ensures rows { let turn = put_turn self.old path.now (shown_parcel parcel) now in
             self.new ≡ (if is_free (shown_put result) then self.old else record self.old { rows = rows_after_all turn.effects self.old.rows }) }
-        ensures tables { let turn = put_turn self.old path.now (shown_parcel parcel) now in
-            K.tables records.new ≡ (if is_free (shown_put result) then K.tables records.old else tables_with (recorded turn.effects) (K.tables records.old)) }
-        ensures cause { HasReplyCause (K.faults records.old) (K.faults records.new) (shown_put result) }
-        ensures crashes { let turn = put_turn self.old path.now (shown_parcel parcel) now in
-            HasReplyCrash (recorded turn.effects) (K.tables records.old) (K.unsettled records.old) (K.unsettled records.new) (shown_put result) }
-        ensures ready { K.ready records.new }
+        ensures records { Leaves (recorded (put_turn self.old path.now (shown_parcel parcel) now).effects) (end_by (shown_put result)) (K.shows records.old) (K.shows records.new) }
         ensures parcel { GivesBack result parcel }
     {
         match standing(self.rows.map(), path, print_of(&parcel)) {
@@ -179,21 +166,12 @@ impl<H: Held> Hosted<H> {
         now: u64,
     ) -> Put<H>
         requires free { row_at path.now self.old.rows ≡ None }
-        requires moment { now ≤ latest_moment }
-        requires ready { K.ready records.old }
-        requires path { IsTrue (is_file_path path.now) }
-        requires blob { IsTrue (is_number parcel.blob) }
-        requires length { parcel.length < number_end }
-        requires fits { FitWhereTold (K.tables records.old) (HostedPut self.old.rule.id path.now parcel.blob (recorded_print (shown_print parcel)) now ∷ []) }
+        requires form { IsPut path.now (shown_parcel parcel) now }
+        requires records { MayTake (puts_row self.old.rule.id path.now (shown_parcel parcel) now) (K.shows records.old) }
         ensures reply { (shown_put result ≡ created) ⊎ IsTrue (is_free (shown_put result)) }
         ensures rows { self.new ≡ (if is_free (shown_put result) then self.old
             else record self.old { rows = with_row (new_row path.now (shown_parcel parcel) now) self.old.rows }) }
-        ensures tables { K.tables records.new ≡ (if is_free (shown_put result) then K.tables records.old
-            else tables_with (HostedPut self.old.rule.id path.now parcel.blob (recorded_print (shown_print parcel)) now ∷ []) (K.tables records.old)) }
-        ensures cause { HasReplyCause (K.faults records.old) (K.faults records.new) (shown_put result) }
-        ensures crashes { HasReplyCrash (HostedPut self.old.rule.id path.now parcel.blob (recorded_print (shown_print parcel)) now ∷ [])
-            (K.tables records.old) (K.unsettled records.old) (K.unsettled records.new) (shown_put result) }
-        ensures ready { K.ready records.new }
+        ensures records { Leaves (puts_row self.old.rule.id path.now (shown_parcel parcel) now) (end_by (shown_put result)) (K.shows records.old) (K.shows records.new) }
         ensures parcel { GivesBack result parcel }
     {
         sizes(parcel.digests);
@@ -222,20 +200,14 @@ impl<H: Held> Hosted<H> {
         parcel: Parcel<H>,
         now: u64,
     ) -> Put<H>
-        requires moment { now ≤ latest_moment }
-        requires ready { K.ready records.old }
-        requires path { IsTrue (is_file_path path.now) }
+        requires form { IsPut path.now (shown_parcel parcel) now }
         requires snapshot { is_snapshot_path path.now ≡ true }
         requires faded { FadesAt path.now self.old.rows }
-        requires fits { FitWhereTold (K.tables records.old) (Relisted self.old.rule.id path.now now ∷ []) }
+        requires records { MayTake (lists_row self.old.rule.id path.now now) (K.shows records.old) }
         ensures reply { (shown_put result ≡ relisted) ⊎ IsTrue (is_free (shown_put result)) }
         ensures rows { self.new ≡ (if is_free (shown_put result) then self.old
             else record self.old { rows = change_where (is_row path.now) (list_again now) self.old.rows }) }
-        ensures tables { K.tables records.new ≡ (if is_free (shown_put result) then K.tables records.old
-            else tables_with (Relisted self.old.rule.id path.now now ∷ []) (K.tables records.old)) }
-        ensures cause { HasReplyCause (K.faults records.old) (K.faults records.new) (shown_put result) }
-        ensures crashes { HasReplyCrash (Relisted self.old.rule.id path.now now ∷ []) (K.tables records.old) (K.unsettled records.old) (K.unsettled records.new) (shown_put result) }
-        ensures ready { K.ready records.new }
+        ensures records { Leaves (lists_row self.old.rule.id path.now now) (end_by (shown_put result)) (K.shows records.old) (K.shows records.new) }
         ensures parcel { GivesBack result parcel }
     {
         let id = &self.rule.id;
@@ -266,24 +238,20 @@ impl<H: Held> Hosted<H> {
         now: u64,
     ) -> PutAll
         requires moment { now ≤ latest_moment }
-        requires ready { K.ready records.old }
+        requires ready { (K.shows records.old).IsReady }
         requires files { IsTrue (list_all is_recordable (shown_files staged.now.entries)) }
         requires few { length (shown_files staged.now.entries) ≤ most_rows }
         requires also { IsTrue (is_item also) }
         requires whole { IsTrue (is_of Second also) }
         requires short { length (item_bytes also) < 65536 }
         requires fits { offence self.old.rows (shown_files staged.now.entries) ≡ None → without_pom self.old.rows (shown_files staged.now.entries) ≡ None
-            → FitWhereTold (K.tables records.old) (recorded (deliveries self.old (shown_files staged.now.entries) now) ++ also ∷ []) }
+            → FitWhereTold (K.shows records.old).tables (recorded (deliveries self.old (shown_files staged.now.entries) now) ++ also ∷ []) }
         ensures reply { (shown_put_all result ≡ (delivery self.old (shown_files staged.now.entries) now).reply) ⊎ IsTrue (is_free (shown_put_all result)) }
         ensures asked { result ≡ PutAll.StoreFault → (offence self.old.rows (shown_files staged.now.entries) ≡ None) × (without_pom self.old.rows (shown_files staged.now.entries) ≡ None) }
         ensures rows { self.new ≡ (if is_done result
             then record self.old { rows = rows_after_all (deliveries self.old (shown_files staged.now.entries) now) self.old.rows } else self.old) }
         ensures blobs { blobs_of result ≡ (if is_done result then flat_map left_by (deliveries self.old (shown_files staged.now.entries) now) else []) }
-        ensures tables { K.tables records.new ≡ (if is_done result
-            then tables_with (recorded (deliveries self.old (shown_files staged.now.entries) now) ++ also ∷ []) (K.tables records.old) else K.tables records.old) }
-        ensures cause { HasReplyCause (K.faults records.old) (K.faults records.new) (shown_put_all result) }
-        ensures crashes { HasPutAllCrash (recorded (deliveries self.old (shown_files staged.now.entries) now) ++ also ∷ []) (K.tables records.old) (K.unsettled records.old) (K.unsettled records.new) result }
-        ensures ready { K.ready records.new }
+        ensures records { LeavesDelivery (recorded (deliveries self.old (shown_files staged.now.entries) now) ++ also ∷ []) result (K.shows records.old) (K.shows records.new) }
     {
         if let Err(answer) = judge(self.alloc, self.rows.map(), staged) {
             return answer;
@@ -357,18 +325,12 @@ impl<H: Held> Hosted<H> {
     /// changed.
     pub fn unlist<K: Records>(&mut self, records: &mut K, now: u64) -> Result<u64, CommitFault>
         requires moment { now ≤ latest_moment }
-        requires ready { K.ready records.old }
-        requires fits { FitWhereTold (K.tables records.old) (recorded (fade_all self.old now)) }
+        requires records { MayTake (recorded (fade_all self.old now)) (K.shows records.old) }
         ensures count { IfOk result (λ n. n ≡ length (due_rows self.old.rule now self.old.rows)) }
         ensures rows { OnOk result (self.new ≡ record self.old { rows = rows_after_all (fade_all self.old now) self.old.rows }) }
-        ensures tables { OnOk result (K.tables records.new ≡ tables_with (recorded (fade_all self.old now)) (K.tables records.old)) }
         ensures err { OnErr result (self.new ≡ self.old) }
-        ensures untold { OnErr result (K.tables records.new ≡ K.tables records.old) }
-        ensures cause { HasCommitCause (K.faults records.old) (K.faults records.new) result }
         ensures asked { result ≡ Err CommitFault.Failed → recorded (fade_all self.old now) ≢ [] }
-        ensures crashes { HasCommitCrash (recorded (fade_all self.old now)) (K.tables records.old) (K.unsettled records.old) (K.unsettled records.new) result }
-        ensures ready { K.ready records.new }
-
+        ensures records { Leaves (recorded (fade_all self.old now)) (end_of result) (K.shows records.old) (K.shows records.new) }
         // All files and their side files are answered as before.
         ensures answered { (path : List ℕ) → is_of_document (kind path) ≡ false
             → seen_at self.new.rows path (kind path) ≡ seen_at self.old.rows path (kind path) }

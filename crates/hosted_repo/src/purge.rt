@@ -1,10 +1,11 @@
 //! The purge of snapshots in two phases: rows are unlisted, and gone once their grace period is over.
-ghost use Rattle.std.specs.Prelude.{◌≡◌, ◌≢◌, ◌≤◌, ◌++◌, ℕ, [], List, None, length, map, filter, take, IfOk, IsTrue, OnOk, OnErr, string_bytes};
+ghost use Rattle.std.specs.Prelude.{◌≡◌, ◌≢◌, ◌≤◌, ◌++◌, ℕ, [], List, None, length, map, filter, take, IfOk, IsTrue, OnOk, OnErr};
 ghost use Rattle.std.specs.List.{All};
 ghost use Rattle.mvn_coords.specs.Layout.{Directory, text_of_directory};
 ghost use Rattle.mvn_coords.specs.Path.{IsDirectory};
 ghost use Rattle.repo_model.specs.Document.{document};
 ghost use Rattle.repo_model.specs.History.{latest_moment};
+ghost use Rattle.row_tables.specs.Leaving.{Leaves, MayTake, end_of};
 ghost use Rattle.row_tables.specs.Items.{are_of};
 ghost use Rattle.row_tables.specs.declared.version.Version.TheVariants.{Second};
 ghost use Rattle.kept_docs.specs.Kept.{AreOf, AreSame, kept_at};
@@ -13,13 +14,9 @@ ghost use Rattle.kept_docs.specs.Placed.{HasRoom, WillBeOf};
 ghost use Rattle.hosted_repo.specs.Fades.{AreApartFrom, accepted_at, accepted_of, listed_back};
 ghost use Rattle.repo_model.specs.Effect.{expires, recorded};
 ghost use Rattle.repo_model.specs.Purge.{due_rows, fade_all};
-ghost use Rattle.row_tables.specs.Commits.{tables_with};
 ghost use Rattle.row_tables.specs.Items.{IsChange};
 ghost use Rattle.hosted_repo.specs.Fades.{fade_at_paths};
 ghost use Rattle.hosted_repo.specs.Expired.{shown_expired};
-ghost use Rattle.ordered_rows.specs.Recording.{FitWhereTold};
-ghost use Rattle.row_tables.specs.Records.{HasCommitCause};
-ghost use Rattle.row_tables.specs.Crashes.{HasCommitCrash};
 ghost use Rattle.hosted_repo.specs.Fades.{hosted_of};
 ghost use Rattle.ordered_rows.specs.Rows.{is_before, rows_after_all, shown_rows};
 ghost use Rattle.directory_rows.specs.Rules.{shown_rule};
@@ -114,18 +111,13 @@ fn record_faded<H: Held, K: Records>(
     paths: &[String],
     change: &Change,
 ) -> Result<Vec<Page>, CommitFault>
-    requires ready { K.ready records.old }
     requires whole { IsTrue (are_of Second change.now) }
-    requires fits { FitWhereTold (K.tables records.old) change.now }
+    requires records { MayTake change.now (K.shows records.old) }
     requires docs { (d : Directory) → IsDirectory d → AreApartFrom d paths.now → kept_at (text_of_directory d) docs.old ≡ document d rows.now }
     ensures same { AreSame docs.old docs.new }
     ensures room { IfOk result (λ pages. HasRoom docs.new pages.items) }
     ensures pages { IfOk result (λ pages. WillBeOf docs.new pages.items rows.now) }
-    ensures tables { OnOk result (K.tables records.new ≡ tables_with change.now (K.tables records.old)) }
-    ensures untold { OnErr result (K.tables records.new ≡ K.tables records.old) }
-    ensures cause { HasCommitCause (K.faults records.old) (K.faults records.new) result }
-    ensures crashes { HasCommitCrash change.now (K.tables records.old) (K.unsettled records.old) (K.unsettled records.new) result }
-    ensures ready { K.ready records.new }
+    ensures records { Leaves change.now (end_of result) (K.shows records.old) (K.shows records.new) }
 {
     let drafts = drafts_of(alloc, rows, paths)?;
     let pages = prepared(alloc, docs, drafts)?;
@@ -149,21 +141,14 @@ pub fn unlist_rows<H: Held, K: Records>(
     now: u64,
 ) -> Result<u64, CommitFault>
     requires docs { AreOf docs.old rows.old }
-    requires ready { K.ready records.old }
     requires change { IsChange (recorded (fade_all (hosted_of rule.now rows.old) now)) }
-    requires fits { FitWhereTold (K.tables records.old) (recorded (fade_all (hosted_of rule.now rows.old) now)) }
+    requires records { MayTake (recorded (fade_all (hosted_of rule.now rows.old) now)) (K.shows records.old) }
     ensures count { IfOk result (λ n. n ≡ length (due_rows (shown_rule rule.now) now rows.old)) }
-    ensures rows { OnOk result (rows.new
-        ≡ rows_after_all (fade_all (hosted_of rule.now rows.old) now) rows.old) }
-    ensures tables { OnOk result (K.tables records.new
-        ≡ tables_with (recorded (fade_all (hosted_of rule.now rows.old) now)) (K.tables records.old)) }
+    ensures rows { OnOk result (rows.new ≡ rows_after_all (fade_all (hosted_of rule.now rows.old) now) rows.old) }
     ensures err { OnErr result (rows.new ≡ rows.old) }
     ensures docs { AreOf docs.new rows.new }
-    ensures untold { OnErr result (K.tables records.new ≡ K.tables records.old) }
-    ensures cause { HasCommitCause (K.faults records.old) (K.faults records.new) result }
     ensures asked { result ≡ Err CommitFault.Failed → recorded (fade_all (hosted_of rule.now rows.old) now) ≢ [] }
-    ensures crashes { HasCommitCrash (recorded (fade_all (hosted_of rule.now rows.old) now)) (K.tables records.old) (K.unsettled records.old) (K.unsettled records.new) result }
-    ensures ready { K.ready records.new }
+    ensures records { Leaves (recorded (fade_all (hosted_of rule.now rows.old) now)) (end_of result) (K.shows records.old) (K.shows records.new) }
 {
     let paths = due_paths(alloc, rows, rule, now)?;
     if paths.is_empty() {

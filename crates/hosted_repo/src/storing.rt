@@ -1,18 +1,14 @@
 //! Rows that are recorded and stored: the documents, and a new row, change before the commit, and are as before where it fails. That
 //! takes no memory, and is not seen from outside.
-ghost use Rattle.std.specs.Prelude.{◌≡◌, ◌≤◌, ◌∷◌, [], None, OnOk, OnErr};
-ghost use Rattle.repo_model.specs.declared.item.Item.TheVariants.{HostedPut, Relisted};
+ghost use Rattle.std.specs.Prelude.{◌≡◌, ◌≤◌, None, OnOk, OnErr};
 ghost use Rattle.repo_model.specs.Effect.{list_again, new_row, with_row};
 ghost use Rattle.repo_model.specs.History.{latest_moment};
-ghost use Rattle.repo_model.specs.Prints.{recorded_print};
-ghost use Rattle.repo_model.specs.Shown.{shown_parcel, shown_print};
+ghost use Rattle.repo_model.specs.Shown.{shown_parcel};
 ghost use Rattle.repo_model.specs.State.{change_where, is_row, row_at};
-ghost use Rattle.row_tables.specs.Commits.{tables_with};
+ghost use Rattle.row_tables.specs.Leaving.{Leaves, MayTake, end_of};
 ghost use Rattle.row_tables.specs.Items.{IsChange};
-ghost use Rattle.row_tables.specs.Records.{HasCommitCause};
-ghost use Rattle.row_tables.specs.Crashes.{HasCommitCrash};
-ghost use Rattle.ordered_rows.specs.Recording.{FitWhereTold};
 ghost use Rattle.kept_docs.specs.Kept.{AreOf};
+ghost use Rattle.hosted_repo.specs.Puts.{puts_row, lists_row};
 ghost use Rattle.hosted_repo.specs.Releases.{FadesAt};
 
 use crate::changes::{put_change, relist_change};
@@ -37,18 +33,12 @@ pub fn create<H: Held, K: Records>(
     requires docs { AreOf docs.old rows.old }
     requires free { row_at path.now rows.old ≡ None }
     requires moment { accepted ≤ latest_moment }
-    requires ready { K.ready records.old }
-    requires change { IsChange (HostedPut repo.now path.now parcel.now.blob (recorded_print (shown_print parcel.now)) accepted ∷ []) }
-    requires fits { FitWhereTold (K.tables records.old) (HostedPut repo.now path.now parcel.now.blob (recorded_print (shown_print parcel.now)) accepted ∷ []) }
+    requires change { IsChange (puts_row repo.now path.now (shown_parcel parcel.now) accepted) }
+    requires records { MayTake (puts_row repo.now path.now (shown_parcel parcel.now) accepted) (K.shows records.old) }
     ensures ok { OnOk result (rows.new ≡ with_row (new_row path.now (shown_parcel parcel.now) accepted) rows.old) }
     ensures err { OnErr result (rows.new ≡ rows.old) }
     ensures docs { AreOf docs.new rows.new }
-    ensures recorded { OnOk result (K.tables records.new
-        ≡ tables_with (HostedPut repo.now path.now parcel.now.blob (recorded_print (shown_print parcel.now)) accepted ∷ []) (K.tables records.old)) }
-    ensures untold { OnErr result (K.tables records.new ≡ K.tables records.old) }
-    ensures cause { HasCommitCause (K.faults records.old) (K.faults records.new) result }
-    ensures crashes { HasCommitCrash (HostedPut repo.now path.now parcel.now.blob (recorded_print (shown_print parcel.now)) accepted ∷ []) (K.tables records.old) (K.unsettled records.old) (K.unsettled records.new) result }
-    ensures ready { K.ready records.new }
+    ensures records { Leaves (puts_row repo.now path.now (shown_parcel parcel.now) accepted) (end_of result) (K.shows records.old) (K.shows records.new) }
 {
     let change = put_change(alloc, repo, path, parcel.blob, print_of(parcel), accepted)?;
     let row = Row {
@@ -84,17 +74,12 @@ pub fn relist<H: Held, K: Records>(
     requires docs { AreOf docs.old rows.old }
     requires faded { FadesAt path.now rows.old }
     requires moment { accepted ≤ latest_moment }
-    requires ready { K.ready records.old }
-    requires change { IsChange (Relisted repo.now path.now accepted ∷ []) }
-    requires fits { FitWhereTold (K.tables records.old) (Relisted repo.now path.now accepted ∷ []) }
+    requires change { IsChange (lists_row repo.now path.now accepted) }
+    requires records { MayTake (lists_row repo.now path.now accepted) (K.shows records.old) }
     ensures ok { OnOk result (rows.new ≡ change_where (is_row path.now) (list_again accepted) rows.old) }
     ensures err { OnErr result (rows.new ≡ rows.old) }
     ensures docs { AreOf docs.new rows.new }
-    ensures recorded { OnOk result (K.tables records.new ≡ tables_with (Relisted repo.now path.now accepted ∷ []) (K.tables records.old)) }
-    ensures untold { OnErr result (K.tables records.new ≡ K.tables records.old) }
-    ensures cause { HasCommitCause (K.faults records.old) (K.faults records.new) result }
-    ensures crashes { HasCommitCrash (Relisted repo.now path.now accepted ∷ []) (K.tables records.old) (K.unsettled records.old) (K.unsettled records.new) result }
-    ensures ready { K.ready records.new }
+    ensures records { Leaves (lists_row repo.now path.now accepted) (end_of result) (K.shows records.old) (K.shows records.new) }
 {
     // Its contract says that each path stands once.
     let _len = rows.map().len();

@@ -1,5 +1,5 @@
 -- What a proxy answers of a fetch that lands, and what it is then.
-use Rattle.std.specs.Prelude.{◌≡◌, ◌≢◌, ◌⊎◌, ℕ, Bool, true, false, if◌then◌else◌, IsTrue, List, [], ◌∷◌, Option}
+use Rattle.std.specs.Prelude.{◌≡◌, ◌≢◌, ◌⊎◌, ℕ, Bool, true, false, if◌then◌else◌, IsTrue, List, [], ◌∷◌}
 use Rattle.std.specs.List.{list_any}
 use Rattle.outside.specs.declared.stores.Held.{Ghosts}
 use Rattle.fetch_plan.specs.declared.Plan.{Plan}
@@ -9,12 +9,10 @@ use Rattle.repo_model.specs.declared.fetched.Got.{Got}
 use Rattle.repo_model.specs.Effect.{Effect, caches, proxy_after, recorded}
 use Rattle.repo_model.specs.Reply.{Reply, landed, no_memory, store_fault, is_free}
 use Rattle.repo_model.specs.Shown.{shown_got, outcome_map}
-use Rattle.repo_model.specs.Tables.{Tables}
 use Rattle.repo_model.specs.Turn.{lands_by}
-use Rattle.row_tables.specs.Commits.{tables_with}
+use Rattle.row_tables.specs.Leaving.{Leaves, Shown, end_by}
 use Rattle.row_tables.specs.declared.faults.CommitFault.{CommitFault}
 use Rattle.row_tables.specs.declared.faults.CommitFault.TheVariants as commit
-use Rattle.ordered_rows.specs.Recording.{HasReplyCause}
 use Rattle.proxy_rules.specs.declared.landed.Landed.{Landed}
 use Rattle.proxy_rules.specs.declared.landed.Landed.TheVariants.{Kept, NotKept, StoreFault, NoMemory}
 
@@ -49,10 +47,10 @@ abbrev pub proxy_after_all : List Effect → Proxy → Proxy
 proxy_after_all [] p = p
 proxy_after_all (e ∷ effects) p = proxy_after_all effects (proxy_after e p)
 
--- The effects are recorded and done, and answered as theirs; or, where the records failed or memory ran out, none of them is.
-pub record Lands (effects : List Effect) (old new : Proxy) (told told_then : Option Tables) (faults faults_then : ℕ) (answer : Landed) : Type 0 where
+-- The effects are done, and answered as theirs, once they are recorded; or, where the records failed or memory ran out, none of
+-- them is.
+pub record Lands (effects : List Effect) (old new : Proxy) (was now : Shown) (answer : Landed) : Type 0 where
   pub answered : (answer ≡ answer_of effects) ⊎ IsTrue (has_failed answer)
   pub asked : answer ≡ StoreFault → recorded effects ≢ []
   pub proxy : new ≡ (if has_failed answer then old else proxy_after_all effects old)
-  pub tables : told_then ≡ (if has_failed answer then told else tables_with (recorded effects) told)
-  pub cause : HasReplyCause faults faults_then (shown_landed answer)
+  pub records : Leaves (recorded effects) (end_by (shown_landed answer)) was now

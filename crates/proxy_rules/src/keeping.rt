@@ -6,11 +6,8 @@ ghost use Rattle.repo_model.specs.History.{latest_moment};
 ghost use Rattle.repo_model.specs.Prints.{recorded_print};
 ghost use Rattle.repo_model.specs.Shown.{shown_parcel, shown_print};
 ghost use Rattle.repo_model.specs.State.{row_at};
-ghost use Rattle.row_tables.specs.Commits.{tables_with};
+ghost use Rattle.row_tables.specs.Leaving.{Leaves, MayTake, end_of};
 ghost use Rattle.row_tables.specs.Items.{IsChange};
-ghost use Rattle.row_tables.specs.Records.{HasCommitCause};
-ghost use Rattle.row_tables.specs.Crashes.{HasCommitCrash};
-ghost use Rattle.ordered_rows.specs.Recording.{FitWhereTold};
 ghost use Rattle.proxy_entries.specs.Stored.{shown_documents, shown_kept};
 
 use crate::changes::{document_change, file_change};
@@ -34,18 +31,11 @@ pub fn keep_file<H: Held, K: Records>(
 ) -> Result<(), CommitFault>
     requires free { row_at path.now files.old ≡ None }
     requires moment { accepted ≤ latest_moment }
-    requires ready { K.ready records.old }
     requires change { IsChange (CachedFile proxy.now path.now parcel.blob (recorded_print (shown_print parcel)) accepted ∷ []) }
-    requires fits { FitWhereTold (K.tables records.old) (CachedFile proxy.now path.now parcel.blob (recorded_print (shown_print parcel)) accepted ∷ []) }
+    requires records { MayTake (CachedFile proxy.now path.now parcel.blob (recorded_print (shown_print parcel)) accepted ∷ []) (K.shows records.old) }
     ensures ok { OnOk result (files.new ≡ with_row (new_row path.now (shown_parcel parcel) accepted) files.old) }
     ensures err { OnErr result (files.new ≡ files.old) }
-    ensures recorded { OnOk result (K.tables records.new
-        ≡ tables_with (CachedFile proxy.now path.now parcel.blob (recorded_print (shown_print parcel)) accepted ∷ []) (K.tables records.old)) }
-    ensures untold { OnErr result (K.tables records.new ≡ K.tables records.old) }
-    ensures cause { HasCommitCause (K.faults records.old) (K.faults records.new) result }
-    ensures crashes { HasCommitCrash (CachedFile proxy.now path.now parcel.blob (recorded_print (shown_print parcel)) accepted ∷ [])
-        (K.tables records.old) (K.unsettled records.old) (K.unsettled records.new) result }
-    ensures ready { K.ready records.new }
+    ensures records { Leaves (CachedFile proxy.now path.now parcel.blob (recorded_print (shown_print parcel)) accepted ∷ []) (end_of result) (K.shows records.old) (K.shows records.new) }
 {
     let change = file_change(alloc, proxy, path, parcel.blob, print_of(&parcel), accepted)?;
     let row = Row {
@@ -73,16 +63,11 @@ pub fn keep_document<K: Records>(
     path: &str,
     kept: Kept,
 ) -> Result<(), CommitFault>
-    requires ready { K.ready records.old }
+    requires ready { (K.shows records.old).IsReady }
     requires change { IsChange (CachedDoc proxy.now path.now kept.checked kept.doc ∷ []) }
     ensures ok { OnOk result (shown_documents documents.new.entries ≡ with_kept (shown_kept path.now kept) (shown_documents documents.old.entries)) }
     ensures err { OnErr result (shown_documents documents.new.entries ≡ shown_documents documents.old.entries) }
-    ensures recorded { OnOk result (K.tables records.new
-        ≡ tables_with (CachedDoc proxy.now path.now kept.checked kept.doc ∷ []) (K.tables records.old)) }
-    ensures untold { OnErr result (K.tables records.new ≡ K.tables records.old) }
-    ensures cause { HasCommitCause (K.faults records.old) (K.faults records.new) result }
-    ensures crashes { HasCommitCrash (CachedDoc proxy.now path.now kept.checked kept.doc ∷ []) (K.tables records.old) (K.unsettled records.old) (K.unsettled records.new) result }
-    ensures ready { K.ready records.new }
+    ensures records { Leaves (CachedDoc proxy.now path.now kept.checked kept.doc ∷ []) (end_of result) (K.shows records.old) (K.shows records.new) }
 {
     let change = document_change(alloc, proxy, path, kept.checked, &kept.doc)?;
     let key = String::from_str(alloc, path)?;

@@ -12,8 +12,7 @@ ghost use Rattle.repo_model.specs.Shown.{outcome_map, shown_got, shown_parcel};
 ghost use Rattle.repo_model.specs.State.{is_proxy, new_proxy, number_end, row_at};
 ghost use Rattle.repo_model.specs.Turn.{lands_file};
 ghost use Rattle.row_tables.specs.Items.{is_file_path, is_id, is_number};
-ghost use Rattle.row_tables.specs.Crashes.{HasReplyCrash};
-ghost use Rattle.ordered_rows.specs.Recording.{FitWhereTold};
+ghost use Rattle.row_tables.specs.Leaving.{MayTake};
 ghost use Rattle.proxy_rules.specs.Landings.{Lands, has_failed, landing, shown_landed};
 ghost use Rattle.proxy_rules.specs.Rules.{shown_rule};
 
@@ -234,14 +233,11 @@ impl<H: Held> Proxy<H> {
         now: u64,
     ) -> Landed
         requires moment { now ≤ latest_moment }
-        requires ready { K.ready records.old }
         requires proxy { plan.now.proxy ≡ self.old.rule.id }
         requires landing { IsTrue (is_landing (kind plan.now.path) plan.now.draft (outcome_map shown_got outcome)) }
         requires draft { ForSome plan.now.draft (λ n. IsTrue (is_number n)) }
-        requires fits { FitWhereTold (K.tables records.old) (recorded (landing self.old now plan.now outcome)) }
-        ensures lands { Lands (landing self.old now plan.now outcome) self.old self.new (K.tables records.old) (K.tables records.new) (K.faults records.old) (K.faults records.new) result }
-        ensures crashes { HasReplyCrash (recorded (landing self.old now plan.now outcome)) (K.tables records.old) (K.unsettled records.old) (K.unsettled records.new) (shown_landed result) }
-        ensures ready { K.ready records.new }
+        requires records { MayTake (recorded (landing self.old now plan.now outcome)) (K.shows records.old) }
+        ensures lands { Lands (landing self.old now plan.now outcome) self.old self.new (K.shows records.old) (K.shows records.new) result }
     {
         match outcome {
             Outcome::Got(Got::File(parcel)) => self.land_file(records, plan, parcel, now),
@@ -260,16 +256,12 @@ impl<H: Held> Proxy<H> {
         now: u64,
     ) -> Landed
         requires moment { now ≤ latest_moment }
-        requires ready { K.ready records.old }
         requires proxy { plan.now.proxy ≡ self.old.rule.id }
         requires path { IsTrue (is_file_path plan.now.path) }
         requires blob { IsTrue (is_number parcel.blob) }
         requires length { parcel.length < number_end }
-        requires fits { FitWhereTold (K.tables records.old) (recorded (lands_file plan.now (shown_parcel parcel) now (row_at plan.now.path self.old.files))) }
-        ensures lands { Lands (lands_file plan.now (shown_parcel parcel) now (row_at plan.now.path self.old.files)) self.old self.new (K.tables records.old) (K.tables records.new) (K.faults records.old) (K.faults records.new) result }
-        ensures crashes { HasReplyCrash (recorded (lands_file plan.now (shown_parcel parcel) now (row_at plan.now.path self.old.files)))
-            (K.tables records.old) (K.unsettled records.old) (K.unsettled records.new) (shown_landed result) }
-        ensures ready { K.ready records.new }
+        requires records { MayTake (recorded (lands_file plan.now (shown_parcel parcel) now (row_at plan.now.path self.old.files))) (K.shows records.old) }
+        ensures lands { Lands (lands_file plan.now (shown_parcel parcel) now (row_at plan.now.path self.old.files)) self.old self.new (K.shows records.old) (K.shows records.new) result }
     {
         let path = plan.path.as_str();
         if find(self.files.map(), path).is_some() {
@@ -295,15 +287,12 @@ impl<H: Held> Proxy<H> {
         now: u64,
     ) -> Landed
         requires moment { now ≤ latest_moment }
-        requires ready { K.ready records.old }
+        requires ready { (K.shows records.old).IsReady }
         requires proxy { plan.now.proxy ≡ self.old.rule.id }
         requires path { IsTrue (names_document (kind plan.now.path)) }
         requires short { length (written.text doc) ≤ longest_landed }
         ensures lands { Lands (keeps_doc plan.now.proxy plan.now.path (settled_at doc (kind plan.now.path)) now ∷ clears_negative plan.now.proxy plan.now.path ∷ [])
-            self.old self.new (K.tables records.old) (K.tables records.new) (K.faults records.old) (K.faults records.new) result }
-        ensures crashes { HasReplyCrash (recorded (keeps_doc plan.now.proxy plan.now.path (settled_at doc (kind plan.now.path)) now ∷ clears_negative plan.now.proxy plan.now.path ∷ []))
-            (K.tables records.old) (K.unsettled records.old) (K.unsettled records.new) (shown_landed result) }
-        ensures ready { K.ready records.new }
+            self.old self.new (K.shows records.old) (K.shows records.new) result }
     {
         let path = plan.path.as_str();
         let Ok(Kind::Doc(dir)) = kind_of(path) else {

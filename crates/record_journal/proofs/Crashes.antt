@@ -1,6 +1,7 @@
 -- A commit leaves what a crash before it or after it leaves; between calls that is the tables, or these with what is pending.
-use Rattle.std.proofs.Common.{◌≡◌, ◌⊎◌, ℕ, List, ◌++◌, Option, Some, None, Result, Ok, Err, inl, inr, refl, sym, subst, ap, ◌∙◌}
-use Rattle.std.specs.Prelude.{IfSome, IsErrOf, OnErr, OnOk}
+use Rattle.std.proofs.Common.{◌≡◌, ◌⊎◌, ◌+◌, ℕ, List, [], ◌++◌, length, Option, Some, None, Result, Ok, Err, inl, inr, refl, sym, subst, ap, ◌∙◌}
+use Rattle.std.specs.Prelude.{IfSome, IsErrOf, IsOk, OnErr, OnOk}
+use Rattle.std.proofs.lemmas.Bool.{false≢true}
 use Rattle.std.specs.Result.{result_ok}
 use Rattle.record_disk.specs.Disk.{AllImages, Here, Throughout, Told, Trace}
 use Rattle.record_disk.proofs.Moments.{joined, weaker}
@@ -10,12 +11,13 @@ use Rattle.repo_model.specs.Tables.{Tables}
 use Rattle.row_tables.specs.Applying.{with_items}
 use Rattle.row_tables.specs.Commits.{tables_with}
 use Rattle.row_tables.specs.Items.{change_bytes}
-use Rattle.row_tables.specs.Crashes.{HasCommitCrash, IsOneOf, CrashesLeave, ReadsAmong, Rests, left_by}
+use Rattle.row_tables.specs.Crashes.{IsOneOf, CrashesLeave, ReadsAmong, Rests, left_by}
 use Rattle.row_tables.proofs.OneOf.{back, front, left-first}
 use Rattle.row_tables.specs.declared.faults.CommitFault.{CommitFault}
 use Rattle.row_tables.specs.declared.faults.CommitFault.TheVariants.{Failed, NoMemory}
 use Rattle.row_tables.specs.Loading.{change_in}
-use Rattle.record_journal.specs.Journal.{AddsNothing, Commits, CommitsTo, IsReady, LoadsTo, MayCommit, MayLoad, items_of, tables_of, unsettled_of}
+use Rattle.row_tables.specs.Leaving.{HasCause, HasCrash, Leaves, end_of}
+use Rattle.record_journal.specs.Journal.{Frames, shown_of, AddsNothing, Commits, CommitsTo, IsReady, LoadsTo, MayCommit, MayLoad, items_of, tables_of, unsettled_of}
 use Rattle.record_journal.proofs.Loads.{IsWritable, change_again}
 use Rattle.record_journal.proofs.Standing.{images_of}
 
@@ -110,9 +112,29 @@ pub crashes-so : (result : Result (Unit {0}) CommitFault) (old new : LogState) (
     → (IsErrOf result NoMemory → new.pending ≡ None)
     → OnErr result ((new.pending ≡ Some (change_bytes items)) ⊎ Told old.trace new.trace (AddsNothing (tables_of old) old.pending))
     → Told old.trace new.trace (Commits (tables_of old) old.pending items)
-    → HasCommitCrash items (tables_of old) (unsettled_of old) (unsettled_of new) result
+    → HasCrash (end_of result) items (tables_of old) (unsettled_of old) (unsettled_of new)
 crashes-so (Ok done) old new items is undone pending wanting nothing crash = inr (ap items_of undone, λ t u told told'. committed old new items t u told told' crash)
 crashes-so (Err Failed) old new items is undone pending wanting nothing crash =
     (pending-as old new items is pending, λ t u told told'. failed old new items t u told is (some-same t u (sym told ∙ told')) nothing crash)
 crashes-so (Err NoMemory) old new items is undone pending wanting nothing crash =
     inr (inl (ap items_of (wanting refl)), λ t u told told'. failed old new items t u told is (some-same t u (sym told ∙ told')) nothing crash)
+
+pub leaves-so : (r : Result (Unit {0}) CommitFault) (old new : LogState) (items : List Item) → OnOk r (tables_of new ≡ tables_with items (tables_of old)) → OnErr r (tables_of new ≡ tables_of old)
+    → HasCause (end_of r) old.faults new.faults → HasCrash (end_of r) items (tables_of old) (unsettled_of old) (unsettled_of new) → MayCommit new → Leaves items (end_of r) (shown_of old) (shown_of new)
+leaves-so (Ok done) old new items ok err cause crashes ready = record { tables = ok; cause = cause; crashes = crashes; ready = ready }
+leaves-so (Err Failed) old new items ok err cause crashes ready = record { tables = err; cause = cause; crashes = crashes; ready = ready }
+leaves-so (Err NoMemory) old new items ok err cause crashes ready = record { tables = err; cause = cause; crashes = crashes; ready = ready }
+
+apart : (r : Result (Unit {0}) CommitFault) → r ≡ Err NoMemory → r ≡ Err Failed → ⊥
+apart r wanted failed = cc
+
+pub frames-so : (r : Result (Unit {0}) CommitFault) (old new : LogState) (items : List Item) → OnOk r (new.pending ≡ None)
+    → OnErr r ((new.pending ≡ None) ⊎ (new.pending ≡ old.pending) ⊎ (new.pending ≡ Some (change_bytes items)))
+    → OnErr r ((new.pending ≡ Some (change_bytes items)) ⊎ Told old.trace new.trace (AddsNothing (tables_of old) old.pending))
+    → (items ≡ [] → old.pending ≡ None → IsOk r × (new ≡ old)) → (items ≡ [] → (new.gate ≡ old.gate) × OnErr r (IsErrOf r Failed × (new.pending ≡ old.pending)))
+    → OnOk r ((items ≡ []) ⊎ (new.gate ≡ old.gate + 5 + length (change_bytes items))) → OnErr r (new.gate ≡ old.gate) → Frames items (end_of r) old new
+frames-so (Ok done) old new items undone pending nothing empty unframed framed stays = (undone, (λ none. ((unframed none).0, λ p. (empty none p).1)), framed)
+frames-so (Err Failed) old new items undone pending nothing empty unframed framed stays =
+    (record { gate = stays; pending = pending; nothing = nothing }, λ none. ((λ p. absurd (false≢true (empty none p).0)), (unframed none).1.1))
+frames-so (Err NoMemory) old new items undone pending nothing empty unframed framed stays =
+    (record { gate = stays; pending = pending; nothing = nothing }, λ none. absurd (apart (Err NoMemory) refl (unframed none).1.0))

@@ -1,8 +1,8 @@
 -- What a journal tells, and what a crash at any moment leaves of it.
-use Rattle.std.specs.Prelude.{◌≡◌, ◌⊎◌, ◌≤◌, ℕ, List, take, Option, Some, None, IsSome, IfSome, option_and_then, Ok}
+use Rattle.std.specs.Prelude.{◌≡◌, ◌⊎◌, ◌≤◌, ◌+◌, [], length, ℕ, List, take, Option, Some, None, IsSome, IfSome, option_and_then, Ok}
 use Rattle.std.specs.Option.{option_map}
 use Rattle.std.specs.Result.{result_ok}
-use Rattle.record_disk.specs.Disk.{Trace, After, Sync, content, AllImages, Throughout}
+use Rattle.record_disk.specs.Disk.{Told, Trace, After, Sync, content, AllImages, Throughout}
 use Rattle.record_log.specs.Frames.{frames, gate_of, EndsAt}
 use Rattle.record_log.specs.Log.{LogState, StandsFor, MaySync}
 use Rattle.repo_model.specs.declared.item.Item.{Item}
@@ -10,6 +10,8 @@ use Rattle.repo_model.specs.Tables.{Tables, applied}
 use Rattle.row_tables.specs.Applying.{with_items}
 use Rattle.row_tables.specs.Records.{Expected}
 use Rattle.row_tables.specs.Crashes.{Rests, Unsettled}
+use Rattle.row_tables.specs.Items.{change_bytes}
+use Rattle.row_tables.specs.Leaving.{End, Shown, done, failing, wanting}
 use Rattle.row_tables.specs.Loading.{change_in, loading, built_up}
 
 -- the part of a file that its journal has acknowledged: what stands in front of a frame that failed
@@ -113,3 +115,23 @@ Commits told pending items old new = (t : Tables) → told ≡ Some t → Commit
 -- Nothing is added: at each moment every image loads to the tables that are told, or to these with the pending change.
 abbrev pub AddsNothing : Option Tables → Option (List ℕ) → Trace → Trace → Type 0
 AddsNothing told pending old new = (t : Tables) → told ≡ Some t → Throughout (MayLoad t pending) old new
+
+-- what a journal shows
+abbrev pub shown_of : LogState → Shown
+shown_of log = record { tables = tables_of log; faults = log.faults; unsettled = unsettled_of log; IsReady = MayCommit log }
+
+-- nothing of a change was framed
+pub record NoFrame (items : List Item) (old new : LogState) : Type 0 where
+  pub gate : new.gate ≡ old.gate
+  pub pending : (new.pending ≡ None) ⊎ (new.pending ≡ old.pending) ⊎ (new.pending ≡ Some (change_bytes items))
+  pub nothing : (new.pending ≡ Some (change_bytes items)) ⊎ Told old.trace new.trace (AddsNothing (tables_of old) old.pending)
+
+-- What becomes of the frame of a change. Where it is committed nothing is pending; an empty change has no frame, and is committed
+-- with nothing done where nothing is pending; any other has just one, of its own bytes. Else the gate stays, the change is pending, or
+-- no crash leaves a file with it, and what was pending is so still, or was undone; an empty change fails only where the disk does, and
+-- what was pending is so still.
+abbrev pub Frames : List Item → End → LogState → LogState → Type 0
+Frames items done old new =
+    (new.pending ≡ None) × (items ≡ [] → (new.gate ≡ old.gate) × (old.pending ≡ None → new ≡ old)) × ((items ≡ []) ⊎ (new.gate ≡ old.gate + 5 + length (change_bytes items)))
+Frames items wanting old new = NoFrame items old new × (items ≡ [] → ⊥)
+Frames items failing old new = NoFrame items old new × (items ≡ [] → (old.pending ≡ None → ⊥) × (new.pending ≡ old.pending))

@@ -6,7 +6,7 @@ ghost use Rattle.repo_model.specs.Tables.{applied};
 ghost use Rattle.row_tables.specs.Applying.{with_items};
 ghost use Rattle.row_tables.specs.Items.{IsChange, are_of, change_bytes};
 ghost use Rattle.row_tables.specs.declared.version.Version.TheVariants.{Second};
-ghost use Rattle.row_tables.specs.Records.{HasCommitCause};
+ghost use Rattle.row_tables.specs.Leaving.{HasCause, end_of};
 ghost use Rattle.row_tables.specs.declared.faults.CommitFault.TheVariants.{Failed as failed, NoMemory as no_memory};
 ghost use Rattle.record_journal.specs.Journal.{tables_of, Adds, AddsNothing, IsReady, Commits};
 
@@ -40,7 +40,7 @@ fn append_change<D: Disk>(
     requires whole { IsTrue (are_of Second change.now) }
     requires undone { log.old.pending ≡ None }
     requires fits { ForSome (tables_of log.old) (λ t. applied t change.now ≡ Ok (with_items t change.now)) }
-    ensures cause { HasCommitCause log.old.faults log.new.faults result }
+    ensures cause { HasCause (end_of result) log.old.faults log.new.faults }
     ensures ready { IsReady log.new }
     ensures ok { OnOk result (tables_of log.new ≡ option_map (λ t. with_items t change.now) (tables_of log.old)) }
     ensures err { OnErr result (tables_of log.new ≡ tables_of log.old) }
@@ -72,7 +72,7 @@ pub fn commit_change<D: Disk>(
     requires ready { IsReady log.old }
     requires whole { IsTrue (are_of Second change.now) }
     requires fits { ForSome (tables_of log.old) (λ t. applied t change.now ≡ Ok (with_items t change.now)) }
-    ensures cause { HasCommitCause log.old.faults log.new.faults result }
+    ensures cause { HasCause (end_of result) log.old.faults log.new.faults }
     ensures ready { IsReady log.new }
     ensures ok { OnOk result (tables_of log.new ≡ option_map (λ t. with_items t change.now) (tables_of log.old)) }
     ensures err { OnErr result (tables_of log.new ≡ tables_of log.old) }

@@ -1,16 +1,12 @@
-ghost use Rattle.std.specs.Prelude.{◌≡◌, ◌⊎◌, ◌+◌, [], None, Some, Ok, length, IfOk, IfSome, IsTrue, IsOk, IsErrOf, OnOk, OnErr};
-ghost use Rattle.std.specs.Option.{ForSome, option_map};
+ghost use Rattle.std.specs.Prelude.{◌≡◌, None, IfOk, IfSome, IsTrue, OnOk};
 ghost use Rattle.record_disk.specs.Disk.{After, Sync, content, Told};
 ghost use Rattle.record_log.specs.Frames.{frames, end_of};
-ghost use Rattle.repo_model.specs.Tables.{applied};
-ghost use Rattle.row_tables.specs.Applying.{with_items};
-ghost use Rattle.row_tables.specs.Items.{are_of, change_bytes};
+ghost use Rattle.row_tables.specs.Items.{are_of};
 ghost use Rattle.row_tables.specs.declared.version.Version.TheVariants.{Second};
 ghost use Rattle.row_tables.specs.Recorded.{IsBuiltUp};
-ghost use Rattle.row_tables.specs.Records.{HasLoadCause, HasCommitCause, IsRefusal, LoadsUnlessFailed};
-ghost use Rattle.row_tables.specs.Crashes.{HasCommitCrash};
-ghost use Rattle.row_tables.specs.declared.faults.CommitFault.TheVariants.{Failed as failed};
-ghost use Rattle.record_journal.specs.Journal.{expected_of, tables_of, unsettled_of, KeepsTables, MayCommit, Recovers, AddsNothing, Commits, IsStill};
+ghost use Rattle.row_tables.specs.Records.{HasLoadCause, IsRefusal, LoadsUnlessFailed};
+ghost use Rattle.row_tables.specs.Leaving.{Leaves, MayTake, end_of as ended_by};
+ghost use Rattle.record_journal.specs.Journal.{expected_of, tables_of, unsettled_of, shown_of, KeepsTables, MayCommit, Recovers, Frames, Commits, IsStill};
 
 use crate::committing::commit_change;
 use crate::reloading::load_log;
@@ -61,15 +57,9 @@ impl<D: Disk> Journal<D> {
 }
 
 impl<D: Disk> Records for Journal<D> {
-    ghost faults = { λ j. j.faults };
-
-    ghost tables = { tables_of };
+    ghost shows = { shown_of };
 
     ghost loading = { expected_of };
-
-    ghost unsettled = { unsettled_of };
-
-    ghost ready = { MayCommit };
 
     fn load(&mut self, alloc: Global) -> Result<Tables, LoadFault>
         ensures cause { HasLoadCause self.old.faults self.new.faults result }
@@ -99,34 +89,16 @@ impl<D: Disk> Records for Journal<D> {
     }
 
     fn commit(&mut self, alloc: Global, change: &Change) -> Result<(), CommitFault>
-        requires ready { MayCommit self.old }
         requires whole { IsTrue (are_of Second change.now) }
-        requires fits { ForSome (tables_of self.old) (λ t. applied t change.now ≡ Ok (with_items t change.now)) }
-        ensures cause { HasCommitCause self.old.faults self.new.faults result }
-        ensures ok { OnOk result (tables_of self.new ≡ option_map (λ t. with_items t change.now) (tables_of self.old)) }
-        ensures err { OnErr result (tables_of self.new ≡ tables_of self.old) }
-        ensures undone { OnOk result (self.new.pending ≡ None) }
-        ensures settled { OnOk result ((unsettled_of self.new).pending ≡ None) }
-        ensures crashes { HasCommitCrash change.now (tables_of self.old) (unsettled_of self.old) (unsettled_of self.new) result }
-        ensures ready { MayCommit self.new }
+        requires records { MayTake change.now (shown_of self.old) }
+        ensures records { Leaves change.now (ended_by result) (shown_of self.old) (shown_of self.new) }
 
         // A crash at a moment of the call leaves a file that loads to the tables from before it, or to these with the change that
         // was pending, until that one is undone; from then on to the tables from before, or to these with the change.
         ensures crash { Told self.old.trace self.new.trace (Commits (tables_of self.old) self.old.pending change.now) }
-        ensures pending { OnErr result ((self.new.pending ≡ None) ⊎ (self.new.pending ≡ self.old.pending) ⊎ (self.new.pending ≡ Some (change_bytes change.now))) }
 
-        // Where it fails, its change is pending, or no crash leaves a file with it.
-        ensures nothing { OnErr result ((self.new.pending ≡ Some (change_bytes change.now)) ⊎ Told self.old.trace self.new.trace (AddsNothing (tables_of self.old) self.old.pending)) }
-
-        // An empty change has no frame.
-        ensures empty { change.now ≡ [] → self.old.pending ≡ None → IsOk result × (self.new ≡ self.old) }
-
-        // Nor has it one where a frame is pending: that one is taken off, or stays where the disk fails.
-        ensures unframed { change.now ≡ [] → (self.new.gate ≡ self.old.gate) × OnErr result (IsErrOf result failed × (self.new.pending ≡ self.old.pending)) }
-
-        // Any other has just one, of its own bytes.
-        ensures framed { OnOk result ((change.now ≡ []) ⊎ (self.new.gate ≡ self.old.gate + 5 + length (change_bytes change.now))) }
-        ensures stays { OnErr result (self.new.gate ≡ self.old.gate) }
+        // What becomes of its frame.
+        ensures frame { Frames change.now (ended_by result) self.old self.new }
     {
         // Its contract says that these are a change.
         let _ = change.items();

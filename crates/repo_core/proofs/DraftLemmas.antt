@@ -1,5 +1,5 @@
 -- Blobs that are put under drafts, as turns of the machine.
-use Rattle.std.proofs.Common.{◌≡◌, ℕ, ◌<◌, Bool, true, false, if◌then◌else◌, List, [], Option, Some, find, refl, sym, ap, ◌∙◌, subst, eqb-true}
+use Rattle.std.proofs.Common.{◌≡◌, ℕ, ◌<◌, Bool, true, false, if◌then◌else◌, List, [], Some, find, refl, sym, ap, ◌∙◌, subst, eqb-true}
 use Rattle.std.specs.Prelude.{◌==◌, IsTrue, nat_lt}
 use Rattle.std.proofs.lemmas.Bool.{and_parts, ltb-true}
 use Rattle.repo_model.specs.Data.{Blob, Hosted}
@@ -12,9 +12,7 @@ use Rattle.repo_model.specs.Reply.{Reply, no_draft, is_free}
 use Rattle.repo_model.specs.Turn.{Turn, turn, says, put_at}
 use Rattle.hosted_repo.specs.Puts.{put_turn}
 use Rattle.ordered_rows.specs.Rows.{rows_after_all}
-use Rattle.ordered_rows.specs.Recording.{HasReplyCause}
-use Rattle.repo_model.specs.Tables.{Tables}
-use Rattle.row_tables.specs.Commits.{tables_with}
+use Rattle.row_tables.specs.Leaving.{Leaves, Shown, end_by}
 use Rattle.repo_parts.specs.Numbers.{yard_put}
 use Rattle.repo_core.specs.Turn.{Recorded}
 use Rattle.repo_core.specs.Whole.{Parts}
@@ -40,18 +38,18 @@ module _ (w : Parts) (repo path : List ℕ) (n : ℕ) (blob : Blob) where
       turn-at = put-here repo path blob w.state.last w.state.hosted old here ∙ ap (λ k. put_at repo path k blob w.state.last (row_at path (rows_of repo w.state))) named ∙ sym by-draft
 
       -- a put that had an outcome
-      pub recorded-put : (new : Hosted) (yard : Yard) (reply : Reply) (told told' : Option Tables) (faults faults' : ℕ) → IsGiven at_place reply
+      pub recorded-put : (new : Hosted) (yard : Yard) (reply : Reply) (before later : Shown) → IsGiven at_place reply
           → new ≡ (if is_free reply then old else record old { rows = rows_after_all at_place.effects old.rows }) → yard ≡ yard_put n reply w.state.yard
-          → told' ≡ (if is_free reply then told else tables_with (recorded at_place.effects) told) → HasReplyCause faults faults' reply
-          → Recorded w (record w { state = record w.state { hosted = with_lent repo w.state.hosted new; yard = yard } }) (put repo path n blob) reply told told' faults faults'
-      recorded-put new yard reply told told' faults faults' given made yards tables cause =
+          → Leaves (recorded at_place.effects) (end_by reply) before later
+          → Recorded w (record w { state = record w.state { hosted = with_lent repo w.state.hosted new; yard = yard } }) (put repo path n blob) reply before later
+      recorded-put new yard reply before later given made yards leaves =
           let rows = put-left repo path blob w.state.last w.state.hosted old new reply here given made in
           let there = put-here repo path blob w.state.last w.state.hosted old here in
-          recorded-by w (record w { state = record w.state { hosted = with_lent repo w.state.hosted new; yard = yard } }) (put repo path n blob) at_place reply told told' faults faults'
+          recorded-by w (record w { state = record w.state { hosted = with_lent repo w.state.hosted new; yard = yard } }) (put repo path n blob) at_place reply before later
           (sym turn-at) refl (recorded-given at_place reply given) refl refl
           ((λ i. record w.state { hosted = rows i; yard = yards i }) ∙ ap (λ k. record (state_put repo path blob reply w.state) { yard = yard_put k reply w.state.yard }) (sym named)
           ∙ left-put w.state repo path blob reply (subst (λ (u : Turn). IsGiven u reply) there given) ∙ ap (λ (u : Turn). with_effects w.state (if is_free reply then [] else u.effects)) (sym there))
-          tables cause
+          leaves
 
 module _ (settings : Settings) (repo path : List ℕ) (n : ℕ) (blob : Blob) (asked : IsTrue (meets settings (put repo path n blob))) where
   abbrev taken_there : Bool

@@ -19,11 +19,9 @@ use Rattle.repo_model.specs.Fetched.{Landing, got_doc, got_file}
 use Rattle.repo_model.specs.Reply.{is_free, landed, no_draft, no_memory, store_fault}
 use Rattle.repo_model.specs.Settings.{ProxyRule, Settings}
 use Rattle.repo_model.specs.State.{State, is_among, is_proxy, number_end, row_at}
-use Rattle.repo_model.specs.Tables.{Tables}
 use Rattle.repo_model.specs.Turn.{gives_draft_up, is_drawn, lands, lands_by, lands_file, says, turn}
 use Rattle.repo_laws.specs.Files.{files_in}
-use Rattle.row_tables.specs.Commits.{tables_with}
-use Rattle.ordered_rows.specs.Recording.{HasReplyCause}
+use Rattle.row_tables.specs.Leaving.{Leaves, Shown, end_by}
 use Rattle.proxy_rules.specs.Landings.{answer_of, has_failed, shown_landed}
 use Rattle.proxy_rules.specs.declared.landed.Landed.{Landed}
 use Rattle.proxy_rules.specs.declared.landed.Landed.TheVariants.{Kept, NotKept, StoreFault, NoMemory}
@@ -149,14 +147,14 @@ module _ (w new : Parts) (plan : Plan) (landing : Landing) (answer : Landed) whe
   left-so (inl is) fits = subst (Left w.state plan.draft effects) (sym is) (landing-left w.state (files_in plan.proxy w.state.proxies) w.state.last plan landing fits)
   left-so (inr failed) fits = failed-left w.state plan.draft effects answer failed
 
-  pub recorded-land : (told told' : Option Tables) (faults faults' : ℕ) → is_drawn plan.draft w.state.yard.drafts ≡ true → IsTrue (meets w.settings (land plan landing)) → new.settings ≡ w.settings → new.calls ≡ w.calls
+  pub recorded-land : (before later : Shown) → is_drawn plan.draft w.state.yard.drafts ≡ true → IsTrue (meets w.settings (land plan landing)) → new.settings ≡ w.settings → new.calls ≡ w.calls
       → (answer ≡ answer_of effects) ⊎ IsTrue (has_failed answer) → (answer ≡ StoreFault → recorded effects ≢ [])
       → new.state ≡ record w.state { proxies = (if has_failed answer then w.state.proxies else proxies_after_all effects w.state.proxies); yard = yard_landed plan.draft answer w.state.yard }
-      → told' ≡ (if has_failed answer then told else tables_with (recorded effects) told) → HasReplyCause faults faults' (shown_landed answer)
-      → Recorded w new (land plan landing) (shown_landed answer) told told' faults faults'
-  recorded-land told told' faults faults' drawn met settings calls answered asked state tables cause =
-      recorded-by w new (land plan landing) (record { reply = landed; effects = effects }) (shown_landed answer) told told' faults faults' (land-turn drawn) refl (given-so answered asked) settings calls
-      (state ∙ left-so answered (lands-so w.settings plan landing met)) tables cause
+      → Leaves (recorded effects) (end_by (shown_landed answer)) before later
+      → Recorded w new (land plan landing) (shown_landed answer) before later
+  recorded-land before later drawn met settings calls answered asked state leaves =
+      recorded-by w new (land plan landing) (record { reply = landed; effects = effects }) (shown_landed answer) before later (land-turn drawn) refl (given-so answered asked) settings calls
+      (state ∙ left-so answered (lands-so w.settings plan landing met)) leaves
 
 -- ---- what holds of the parts
 -- the rules of proxies stay

@@ -1,6 +1,6 @@
 -- Unlist and Collect, as turns of the machine.
 use native.Mathlib.Omega.{arith}
-use Rattle.std.proofs.Common.{◌≡◌, ℕ, ◌≤◌, false, if◌then◌else◌, List, [], ◌∷◌, length, map, Option, Some, None, Result, Ok, Err, inl, inr, refl, sym, ap, ◌∙◌, subst}
+use Rattle.std.proofs.Common.{◌≡◌, ℕ, ◌≤◌, false, List, [], ◌∷◌, length, map, Option, Some, None, Result, Ok, Err, inl, inr, refl, sym, ap, ◌∙◌, subst}
 use Rattle.std.specs.Prelude.{IsTrue, OnErr, OnOk, find}
 use Rattle.std.specs.List.{AllByRecursion}
 use Rattle.std.specs.Option.{option_map_or}
@@ -14,11 +14,9 @@ use Rattle.repo_model.specs.Effect.{Effect, expires, forgets, items_of, recorded
 use Rattle.repo_model.specs.Purge.{due_rows, expire_all, fade_all, most_rows}
 use Rattle.repo_model.specs.Reply.{Reply, collected, is_free, no_memory, store_fault, unlisted}
 use Rattle.repo_model.specs.State.{State, Yard, change_first, hosted_of, is_repository}
-use Rattle.repo_model.specs.Tables.{Tables}
-use Rattle.repo_model.specs.Turn.{turn, unlent, unlist_of}
+use Rattle.repo_model.specs.Turn.{unlent, unlist_of}
 use Rattle.repo_model.specs.declared.item.Item.{Item}
-use Rattle.row_tables.specs.Commits.{tables_with}
-use Rattle.outside.specs.Faults.{Rose}
+use Rattle.row_tables.specs.Leaving.{End, Leaves, Shown, done, failing, wanting}
 use Rattle.repo_laws.specs.Laws.{rows_with}
 use Rattle.repo_laws.specs.Sound.{AreNamedApart}
 use Rattle.deploy_session.specs.Known.{sessions_after_all}
@@ -33,7 +31,7 @@ use Rattle.repo_parts.specs.Hosted.{AreInUse, rows_in, with_rows}
 use Rattle.repo_parts.specs.Proxies.{AreCachedInUse}
 use Rattle.hosted_repo.specs.Expired.{blob_of}
 use Rattle.repo_parts.specs.Purge.{AreKeptOnce, condemned_by, dropped_by, kept_without, shares}
-use Rattle.repo_core.specs.Turn.{Recorded, Turned}
+use Rattle.repo_core.specs.Turn.{Recorded, Turned, items_due}
 use Rattle.repo_core.specs.Whole.{IsOrderly, Parts}
 use Rattle.settings_laws.proofs.Apart.{named-apart}
 use Rattle.repo_parts.proofs.BlobLemmas.{gone-once, none-gone, none-of-proxies}
@@ -43,7 +41,7 @@ use Rattle.repo_parts.proofs.GarbageLemmas.{IsGoing, covered-then, garbage_of}
 use Rattle.repo_parts.proofs.StagedLemmas.{covered-files, covers}
 use Rattle.repo_parts.proofs.HostedLemmas.{lent-rows, lent-still, with_lent}
 use Rattle.repo_parts.proofs.PutReplies.{rows-by, same-rows}
-use Rattle.repo_core.proofs.Turning.{failed-so, recorded-so, some-items}
+use Rattle.repo_core.proofs.Turning.{committed-by, failed-so, recorded-so, some-items, turned-without}
 use Rattle.repo_parts.proofs.UseLemmas.{all-still}
 
 -- the rows of one repository, once those that are due are unlisted
@@ -64,8 +62,8 @@ module _ (id : List ℕ) (items : List Hosted) (now : ℕ) (old new : Hosted) (h
   -- what holds of the repositories either way
   pub unlisted-or-not : {E : Type 0} (P : List Hosted → Type 0) (did : Result ℕ E) → OnOk did (new ≡ record old { rows = rows_after_all (fade_all old now) old.rows }) → OnErr did (new ≡ old)
       → ((n : ℕ) → did ≡ Ok n → P (rows_unlisted id now items)) → P items → P (with_lent id items new)
-  unlisted-or-not P (Ok n) rows err done still = subst P (sym (unlisted-lent rows)) (done n refl)
-  unlisted-or-not P (Err e) rows err done still = subst P (sym (lent-still id items old new here err)) still
+  unlisted-or-not P (Ok n) rows err made still = subst P (sym (unlisted-lent rows)) (made n refl)
+  unlisted-or-not P (Err e) rows err made still = subst P (sym (lent-still id items old new here err)) still
 
 left-by : (s : State) (repo : List ℕ) (found : Option Hosted) → hosted_of repo s ≡ found
     → record s { hosted = with_rows repo (rows_after_all (unlist_of s.last found).effects (rows_in repo s.hosted)) s.hosted } ≡ with_effects s (unlist_of s.last found).effects
@@ -88,31 +86,37 @@ turned-unlisted w repo n hosted count rows = record {
 }
 
 -- rows of a repository were unlisted, once that was recorded; or memory ran out; or the records failed
-module _ (w : Parts) (repo : List ℕ) (old new : Hosted) (here : find (is_repository repo) w.state.hosted ≡ Some old) (told told' : Option Tables) (faults faults' : ℕ) where
+module _ (w : Parts) (repo : List ℕ) (old new : Hosted) (here : find (is_repository repo) w.state.hosted ≡ Some old) (before later : Shown) where
   abbrev then_left : Parts
   then_left = record w { state = record w.state { hosted = with_lent repo w.state.hosted new } }
 
-  pub unlist-done : (n : ℕ) → n ≡ length (due_rows old.rule w.state.last old.rows) → new ≡ record old { rows = rows_after_all (fade_all old w.state.last) old.rows }
-      → told' ≡ tables_with (recorded (fade_all old w.state.last)) told → faults' ≡ faults → Recorded w then_left (unlist repo) (unlisted n) told told' faults faults'
-  unlist-done n count rows tables same =
-      recorded-so w then_left (unlist repo) (unlisted n) told told' faults faults'
-      (turned-unlisted w repo n (with_lent repo w.state.hosted new) (unlisted-count repo w.state.hosted w.state.last old new here n count) (unlisted-lent repo w.state.hosted w.state.last old new here rows))
-      (tables ∙ ap (λ found. tables_with (recorded (unlist_of w.state.last found).effects) told) (sym here)) same
+  abbrev due_here : List Item
+  due_here = recorded (fade_all old w.state.last)
 
-  module _ (still : new ≡ old) (tables : told' ≡ told) where
+  due-so : (how : End) → Leaves due_here how before later → Leaves (items_due w (unlist repo)) how before later
+  due-so how leaves = subst (λ found. Leaves (recorded (unlist_of w.state.last found).effects) how before later) (sym here) leaves
+
+  pub unlist-done : (n : ℕ) → n ≡ length (due_rows old.rule w.state.last old.rows) → new ≡ record old { rows = rows_after_all (fade_all old w.state.last) old.rows }
+      → Leaves due_here done before later → Recorded w then_left (unlist repo) (unlisted n) before later
+  unlist-done n count rows leaves =
+      recorded-so w then_left (unlist repo) (unlisted n) before later
+      (turned-unlisted w repo n (with_lent repo w.state.hosted new) (unlisted-count repo w.state.hosted w.state.last old new here n count) (unlisted-lent repo w.state.hosted w.state.last old new here rows))
+      (due-so done leaves)
+
+  module _ (still : new ≡ old) where
     left-still : then_left.state ≡ w.state
     left-still = ap (λ hs. record w.state { hosted = hs }) (lent-still repo w.state.hosted old new here still)
 
-    pub unlist-without : faults' ≡ faults → Recorded w then_left (unlist repo) no_memory told told' faults faults'
-    unlist-without same = recorded-so w then_left (unlist repo) no_memory told told' faults faults' (record { settings = refl; calls = refl; answered = inr (refl, refl); left = left-still }) tables same
+    pub unlist-without : Leaves due_here wanting before later → Recorded w then_left (unlist repo) no_memory before later
+    unlist-without leaves = recorded-so w then_left (unlist repo) no_memory before later (record { settings = refl; calls = refl; answered = inr (refl, refl); left = left-still }) (due-so wanting leaves)
 
-    pub unlist-failed : (recorded (fade_all old w.state.last) ≡ [] → ⊥) → Rose faults faults' → Recorded w then_left (unlist repo) store_fault told told' faults faults'
-    unlist-failed asked rose =
-        failed-so w then_left (unlist repo) told told' faults faults' refl refl left-still
-        (subst (λ found. IsTrue (commits (unlist repo) (unlist_of w.state.last found).effects)) (sym here) (some-items (recorded (fade_all old w.state.last)) asked)) tables rose
+    pub unlist-failed : (due_here ≡ [] → ⊥) → Leaves due_here failing before later → Recorded w then_left (unlist repo) store_fault before later
+    unlist-failed asked leaves =
+        failed-so w then_left (unlist repo) before later refl refl left-still
+        (subst (λ found. IsTrue (commits (unlist repo) (unlist_of w.state.last found).effects)) (sym here) (some-items due_here asked)) (due-so failing leaves)
 
 -- what a Collect records
-pub collect-items : (w : Parts) → recorded (turn w.settings w.state w.state.last collect).effects ≡ recorded (expire_all w.settings.grace w.state.last w.state.hosted)
+pub collect-items : (w : Parts) → items_due w collect ≡ recorded (expire_all w.settings.grace w.state.last w.state.hosted)
 collect-items w =
     let gone = expire_all w.settings.grace w.state.last w.state.hosted in
     flat_map-append items_of gone (forgets (unlent (with_effects w.state gone).yard) ∷ []) ∙ append-nil (recorded gone)
@@ -134,13 +138,18 @@ module _ (w v : Parts) (same : v ≡ w) (grace : ℕ) where
       (made ∙ ap (λ s. recorded (expire_all s v.state.last hosted)) seconds ∙ ap (λ hs. recorded (expire_all v.settings.grace v.state.last hs)) there)
 
 -- a Collect whose change was recorded
-pub collect-done : (w new : Parts) (reply : Reply) (change : List Item) (told told' : Option Tables) (faults faults' : ℕ) → Turned w new collect reply → is_free reply ≡ false
-    → change ≡ recorded (expire_all w.settings.grace w.state.last w.state.hosted) → told' ≡ tables_with change told → faults' ≡ faults → Recorded w new collect reply told told' faults faults'
-collect-done w new reply change told told' faults faults' turned bound made tables same =
-    recorded-so w new collect reply told told' faults faults' turned
-    (tables ∙ ap (λ items. tables_with items told) (made ∙ sym (collect-items w))
-    ∙ ap (λ b. if b then told else tables_with (recorded (turn w.settings w.state w.state.last collect).effects) told) (sym bound))
-    same
+pub collect-done : (w new : Parts) (reply : Reply) (change : List Item) (before later : Shown) → Turned w new collect reply → is_free reply ≡ false
+    → change ≡ recorded (expire_all w.settings.grace w.state.last w.state.hosted) → Leaves change done before later → Recorded w new collect reply before later
+collect-done w new reply change before later turned bound made leaves =
+    recorded-so w new collect reply before later turned
+    (committed-by (items_due w collect) before later reply bound (subst (λ items. Leaves items done before later) (made ∙ sym (collect-items w)) leaves))
+
+-- one whose records failed, and one that wanted memory
+pub collect-failed : (w : Parts) (before later : Shown) → Leaves (items_due w collect) failing before later → Recorded w w collect store_fault before later
+collect-failed w before later leaves = failed-so w w collect before later refl refl refl refl leaves
+
+pub collect-without : (w : Parts) (before later : Shown) → Leaves (items_due w collect) wanting before later → Recorded w w collect no_memory before later
+collect-without w before later leaves = recorded-so w w collect no_memory before later (turned-without w collect refl) leaves
 
 -- what a Collect leaves: the rows whose grace is over are gone, and so is garbage that nobody has borrowed
 pub turned-collected : (w : Parts) (hosted : List Hosted) (between after : Yard) (n : ℕ) (blobs : List ℕ) → AreNamedApart (map (λ (h : Hosted). h.rule) w.state.hosted)

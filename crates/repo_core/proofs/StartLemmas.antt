@@ -25,7 +25,7 @@ use Rattle.repo_laws.proofs.HoldingLists.{all-join, all-split}
 use Rattle.repo_laws.proofs.Lists.{all-both, all-then}
 use Rattle.repo_laws.proofs.Starting.{each-from, greatest-below-end, greatest-from, started-stands}
 use Rattle.repo_laws.proofs.StartedSound.{started-sound}
-use Rattle.row_tables.specs.Crashes.{Unsettled}
+use Rattle.row_tables.specs.Leaving.{Shown}
 use Rattle.row_tables.specs.Items.{is_file_path}
 use Rattle.row_tables.specs.Recorded.{IsBuiltUp}
 use Rattle.row_tables.specs.Records.{Expected}
@@ -206,17 +206,17 @@ module _ (settings : Settings) (t : Tables) (old new : Shelf) (clock : Option Mo
       let is : t ≡ u = same ∙ (let e : them ≡ u = cc in e) in
       subst (λ (v : Tables). StandsFor v (counting faults s)) is (starts-stand faults)
 
-  pub starts-kept : (p : Parts) (faults : ℕ) (unsettled : Unsettled) (tables : Option Tables) → p.settings ≡ settings → p.state ≡ s → IfSome tables (λ them. t ≡ them) → IsKept (whole_of p tables unsettled faults)
-  starts-kept p faults unsettled tables same state told = record {
-    sound = subst (λ st. IsSound st (counting faults p.state)) (sym same) (subst (λ u. IsSound settings (counting faults u)) (sym state) (starts-sound faults));
+  pub starts-kept : (p : Parts) (now : Shown) → p.settings ≡ settings → p.state ≡ s → IfSome now.tables (λ them. t ≡ them) → IsKept (whole_of p now)
+  starts-kept p now same state told = record {
+    sound = subst (λ st. IsSound st (counting now.faults p.state)) (sym same) (subst (λ u. IsSound settings (counting now.faults u)) (sym state) (starts-sound now.faults));
     form = subst IsSettings (sym same) form;
-    told = subst (λ u. ForSome tables (Tell (counting faults u))) (sym state) (tell tables told);
+    told = subst (λ u. ForSome now.tables (Tell (counting now.faults u))) (sym state) (tell now.tables told);
   } where
-    tell : (tables : Option Tables) → IfSome tables (λ them. t ≡ them) → ForSome tables (Tell (counting faults s))
+    tell : (tables : Option Tables) → IfSome tables (λ them. t ≡ them) → ForSome tables (Tell (counting now.faults s))
     tell None none u is = absurd (none-some u is)
     tell (Some them) same_as u is =
         let eq : t ≡ u = same_as ∙ (let e : them ≡ u = cc in e) in
-        subst (Tell (counting faults s)) eq (record { order = built-order t built; holds = (starts-stand faults).holds })
+        subst (Tell (counting now.faults s)) eq (record { order = built-order t built; holds = (starts-stand now.faults).holds })
 
 -- where nothing was recorded or stored, it is the state before the first turn
 module _ (settings : Settings) (t : Tables) (old new : Shelf) (clock : Option Moments) (faults : ℕ) (s : State) (starts : Starts settings t old new clock faults s) where

@@ -30,7 +30,6 @@ use Rattle.repo_model.specs.Turn.{Seen, Turn, compared, draws_draft, file_limit,
 use Rattle.repo_model.specs.History as history
 use Rattle.repo_model.specs.History.{Entry, IsReply, MomentFits, commits, latest_moment, ticked, Fits, effects_of, after, is_collect}
 use Rattle.outside.specs.Faults.{Rose}
-use Rattle.ordered_rows.specs.Recording.{FitWhereTold, HasReplyCause}
 use Rattle.repo_config.specs.Form.{IsSettings}
 use Rattle.repo_laws.specs.Sound.{IsSound}
 use Rattle.repo_laws.proofs.Answered.{no-free}
@@ -41,14 +40,15 @@ use Rattle.repo_laws.proofs.Moments.{last_of}
 use Rattle.row_tables.specs.Applying.{with_items}
 use Rattle.row_tables.specs.Commits.{tables_with}
 use Rattle.row_tables.specs.Crashing.{tried}
-use Rattle.row_tables.specs.Crashes.{HasReplyCrash, IsCommitted, Unsettled}
+use Rattle.row_tables.specs.Crashes.{Unsettled}
+use Rattle.row_tables.specs.Leaving.{HasCause, Leaves, MayTake, Shown, done, end_by, failing}
+use Rattle.row_tables.proofs.Leavings.{quiet-by, tables-by, told_same}
 use Rattle.std.specs.Option.{ForSome}
 use Rattle.std.proofs.lemmas.Bool.{false≢true, ne_eqb}
 use Rattle.std.proofs.lemmas.Option.{none-some}
-use Rattle.repo_core.specs.Turn.{done_by, IsAnswer, IsSettled, IsSettledBy, due, wants_memory, failed, MayRecord, Recorded, Turned}
+use Rattle.repo_core.specs.Turn.{done_by, IsAnswer, IsSettled, IsSettledBy, due, wants_memory, failed, MayRecord, Recorded, Turned, items_due}
 use Rattle.repo_core.specs.Whole.{Parts, Whole, IsKept, IsOrderly, Tell, counting}
 use Rattle.settings_laws.proofs.Apart.{named-apart}
-use Rattle.repo_parts.proofs.EndTurns.{quiet}
 use Rattle.repo_core.proofs.LookSame.{look-same}
 use Rattle.repo_parts.proofs.PutReplies.{by-free}
 use Rattle.repo_parts.proofs.AmongLemmas.{or-right}
@@ -107,14 +107,14 @@ pub moment-given : (s : State) (moment : ℕ) → IfSome s.clock (λ moments. mo
 moment-given s moment given order limit = moment-by s.clock s.last moment given order limit
 
 -- a count that did not rise, or rose because the records failed
-not-failed : (before later : ℕ) (reply : Reply) → HasReplyCause before later reply → (reply ≡ store_fault → ⊥) → later ≡ before
+not-failed : (before later : ℕ) (reply : Reply) → HasCause (end_by reply) before later → (reply ≡ store_fault → ⊥) → later ≡ before
 not-failed before later store_fault cause other = absurd (other refl)
 not-failed before later reply cause other = cause
 
-did-fail : (before later : ℕ) (reply : Reply) → HasReplyCause before later reply → reply ≡ store_fault → Rose before later
-did-fail before later reply cause is = subst (HasReplyCause before later) is cause
+did-fail : (before later : ℕ) (reply : Reply) → HasCause (end_by reply) before later → reply ≡ store_fault → Rose before later
+did-fail before later reply cause is = subst (λ (r : Reply). HasCause (end_by r) before later) is cause
 
-no-less : (before later : ℕ) (reply : Reply) → HasReplyCause before later reply → before ≤ later
+no-less : (before later : ℕ) (reply : Reply) → HasCause (end_by reply) before later → before ≤ later
 no-less before later store_fault cause = cause.0
 no-less before later reply cause = omega (arith, cause)
 
@@ -122,14 +122,14 @@ counting-later : (faults : ℕ) (es : List Effect) (s : State) → with_effects 
 counting-later faults [] s = refl
 counting-later faults (e ∷ es) s = counting-later faults es (with_effect s e)
 
--- a turn that began where the clock was read, as an entry; so often the records had failed before it and after it
-module _ (w begun new : Parts) (moment : ℕ) (command : Command) (reply : Reply) (told told' : Option Tables) (before later : ℕ) (turned : Recorded begun new command reply told told' before later)
+-- a turn that began where the clock was read, as an entry; the records showed this before it and after it
+module _ (w begun new : Parts) (moment : ℕ) (command : Command) (reply : Reply) (before later : Shown) (turned : Recorded begun new command reply before later)
     (settings : begun.settings ≡ w.settings) (state : begun.state ≡ ticked w.state moment 0) where
   abbrev old : State
-  old = counting before w.state
+  old = counting before.faults w.state
 
   abbrev made : Entry
-  made = record { command = command; moment = new.state.last; reply = reply; faults = later }
+  made = record { command = command; moment = new.state.last; reply = reply; faults = later.faults }
 
   last_is : new.state.last ≡ moment
   last_is = ap (λ (s : State). s.last) turned.left ∙ last_of (done_by begun.settings begun.state command reply) begun.state ∙ ap (λ (s : State). s.last) state
@@ -138,7 +138,7 @@ module _ (w begun new : Parts) (moment : ℕ) (command : Command) (reply : Reply
   turn_is =
       ap (λ st. turn st begun.state begun.state.last command) settings ∙ ap (λ (s : State). turn w.settings s s.last command) state
       ∙ turn-same w.settings w.state moment (option_map moments_after w.state.clock) 0 moment command ∙ ap (λ m. turn w.settings w.state m command) (sym last_is)
-      ∙ sym (turn-same w.settings w.state w.state.last w.state.clock before new.state.last command)
+      ∙ sym (turn-same w.settings w.state w.state.last w.state.clock before.faults new.state.last command)
 
   reply_is : (turn begun.settings begun.state begun.state.last command).reply ≡ (turn w.settings old new.state.last command).reply
   reply_is = ap (λ (t : Turn). t.reply) turn_is
@@ -154,28 +154,24 @@ module _ (w begun new : Parts) (moment : ℕ) (command : Command) (reply : Reply
   turned-fits met fits = record {
     condition = met;
     moment = subst (MomentFits w.state) (sym last_is) fits;
-    faults = no-less before later reply turned.cause;
+    faults = no-less before.faults later.faults reply turned.records.cause;
     reply = elim turned.answered as (λ _. IsReply w.settings old made) [
-      | (due is) ↦ history.due (is ∙ reply_is) (λ _. not-failed before later reply turned.cause (bound-due is))
-      | (wants_memory is may) ↦ history.wants_memory is may (λ _. not-failed before later reply turned.cause (bound-memory is))
-      | (failed is asked) ↦ history.failed is (subst (λ (t : Turn). IsTrue (commits command t.effects)) turn_is asked) (did-fail before later reply turned.cause is)
+      | (due is) ↦ history.due (is ∙ reply_is) (λ _. not-failed before.faults later.faults reply turned.records.cause (bound-due is))
+      | (wants_memory is may) ↦ history.wants_memory is may (λ _. not-failed before.faults later.faults reply turned.records.cause (bound-memory is))
+      | (failed is asked) ↦ history.failed is (subst (λ (t : Turn). IsTrue (commits command t.effects)) turn_is asked) (did-fail before.faults later.faults reply turned.records.cause is)
     ];
   }
 
-  pub turned-after : counting later new.state ≡ after w.settings old made
+  pub turned-after : counting later.faults new.state ≡ after w.settings old made
   turned-after =
-      ap (counting later) (turned.left ∙ ap (λ (s : State). with_effects s (done_by begun.settings begun.state command reply)) state)
-      ∙ sym (counting-later later (done_by begun.settings begun.state command reply) (ticked w.state moment 0))
-      ∙ ap (λ (t : Turn). with_effects (ticked w.state moment later) (if is_free reply then [] else t.effects)) turn_is
-      ∙ ap (λ m. with_effects (ticked w.state m later) (effects_of w.settings old made)) (sym last_is)
+      ap (counting later.faults) (turned.left ∙ ap (λ (s : State). with_effects s (done_by begun.settings begun.state command reply)) state)
+      ∙ sym (counting-later later.faults (done_by begun.settings begun.state command reply) (ticked w.state moment 0))
+      ∙ ap (λ (t : Turn). with_effects (ticked w.state moment later.faults) (if is_free reply then [] else t.effects)) turn_is
+      ∙ ap (λ m. with_effects (ticked w.state m later.faults) (effects_of w.settings old made)) (sym last_is)
 
-  pub turned-tables : told' ≡ tables_with (recorded (effects_of w.settings old made)) told
-  turned-tables = turned.tables ∙ ap (λ (t : Turn). tables_with (recorded (if is_free reply then [] else t.effects)) told) turn_is
-
-  -- so what it was to record
-  pub turned-crash : (now then_so : Unsettled) → HasReplyCrash (recorded (turn begun.settings begun.state begun.state.last command).effects) told now then_so reply
-      → HasReplyCrash (tried w.settings old made) told now then_so reply
-  turned-crash now then_so crashes = subst (λ (t : Turn). HasReplyCrash (recorded t.effects) told now then_so reply) turn_is crashes
+  -- what it was to record, and what it leaves of the records
+  pub turned-records : Leaves (tried w.settings old made) (end_by reply) before later
+  turned-records = subst (λ (t : Turn). Leaves (recorded t.effects) (end_by reply) before later) turn_is turned.records
 
 -- a state is as orderly once the clock was read
 pub ticked-orderly : (w : Parts) (moment calls : ℕ) → IsOrderly w → IsOrderly (record { settings = w.settings; state = ticked w.state moment 0; calls = calls })
@@ -186,12 +182,12 @@ ticked-orderly w moment calls orderly = record {
 }
 
 -- what fits the tables whatever the moment is, does so once the clock was read
-pub begun-fit : (w begun : Parts) (tables : Option Tables) (command : Command) (moment : ℕ) → begun.settings ≡ w.settings → begun.state ≡ ticked w.state moment 0 → w.state.last ≤ moment
-    → moment ≤ latest_moment → MayRecord w tables command → FitWhereTold tables (recorded (turn begun.settings begun.state begun.state.last command).effects)
-begun-fit w begun tables command moment settings state order limit may =
+pub begun-fit : (w begun : Parts) (now : Shown) (command : Command) (moment : ℕ) → begun.settings ≡ w.settings → begun.state ≡ ticked w.state moment 0 → w.state.last ≤ moment
+    → moment ≤ latest_moment → MayRecord w now command → MayTake (items_due begun command) now
+begun-fit w begun now command moment settings state order limit may =
     let same : turn w.settings w.state moment command ≡ turn begun.settings begun.state begun.state.last command =
     sym (turn-same w.settings w.state moment (option_map moments_after w.state.clock) 0 moment command) ∙ ap (λ (s : State). turn w.settings s s.last command) (sym state) ∙ ap (λ st. turn st begun.state begun.state.last command) (sym settings) in
-    subst (λ (t : Turn). FitWhereTold tables (recorded t.effects)) same (may moment order limit)
+    subst (λ (t : Turn). MayTake (recorded t.effects) now) same (record { ready = may.ready; fits = may.fits moment order limit })
 
 -- items that are recorded are committed
 pub some-items : (items : List Item) → (items ≡ [] → ⊥) → not (length items == 0) ≡ true
@@ -204,13 +200,12 @@ settled-by (collected expired blobs) unsettled is = is
 settled-by reply unsettled is = tt
 
 -- what is recorded unless the reply is one that changes nothing
-pub unless : (b : Bool) (es : List Effect) (tables : Option Tables) → (if b then tables else tables_with (recorded es) tables) ≡ tables_with (recorded (if b then [] else es)) tables
-unless true es tables = quiet tables
+unless : (b : Bool) (es : List Effect) (tables : Option Tables) → (if b then tables else tables_with (recorded es) tables) ≡ tables_with (recorded (if b then [] else es)) tables
+unless true es tables = told_same tables
 unless false es tables = refl
 
-unfailed : (reply : Reply) (n : ℕ) → (reply ≡ store_fault → ⊥) → HasReplyCause n n reply
-unfailed store_fault n other = absurd (other refl)
-unfailed reply n other = refl
+pub recorded-tables : (es : List Effect) (reply : Reply) (before later : Shown) → Leaves (recorded es) (end_by reply) before later → later.tables ≡ tables_with (recorded (if is_free reply then [] else es)) before.tables
+recorded-tables es reply before later leaves = tables-by (recorded es) before later reply leaves ∙ unless (is_free reply) es before.tables
 
 -- where the records are not asked, they do not fail
 no-failure : (old new : Parts) (command : Command) (reply : Reply) → Turned old new command reply → reply ≡ store_fault → ⊥
@@ -263,23 +258,21 @@ pub put_side-quiet : (w : Parts) (repo path said : List ℕ) → recorded (turn 
 put_side-quiet w repo path said = judges-nothing (kind path) said (λ at. option_map (λ (row : Row). row.blob) (row_at at (rows_of repo w.state)))
 
 -- a turn whose effects, if it had any, were recorded
-pub recorded-so : (old new : Parts) (command : Command) (reply : Reply) (told told' : Option Tables) (faults faults' : ℕ) → Turned old new command reply
-    → told' ≡ (if is_free reply then told else tables_with (recorded (turn old.settings old.state old.state.last command).effects) told) → faults' ≡ faults
-    → Recorded old new command reply told told' faults faults'
-recorded-so old new command reply told told' faults faults' turned tables same = record {
+pub recorded-so : (old new : Parts) (command : Command) (reply : Reply) (before later : Shown) → Turned old new command reply → Leaves (items_due old command) (end_by reply) before later
+    → Recorded old new command reply before later
+recorded-so old new command reply before later turned leaves = record {
   settings = turned.settings;
   calls = turned.calls;
   answered = elim turned.answered as (λ _. IsAnswer old command reply) [ (inl is) ↦ due is | (inr is) ↦ wants_memory is.0 is.1 ];
   left = turned.left;
-  tables = tables ∙ unless (is_free reply) (turn old.settings old.state old.state.last command).effects told;
-  cause = subst (λ n. HasReplyCause faults n reply) (sym same) (unfailed reply faults (no-failure old new command reply turned));
+  records = leaves;
 }
 
 -- a turn whose records failed
-pub failed-so : (old new : Parts) (command : Command) (told told' : Option Tables) (faults faults' : ℕ) → new.settings ≡ old.settings → new.calls ≡ old.calls → new.state ≡ old.state
-    → IsTrue (commits command (turn old.settings old.state old.state.last command).effects) → told' ≡ told → Rose faults faults' → Recorded old new command store_fault told told' faults faults'
-failed-so before new command told told' faults faults' settings calls state asked tables rose =
-    record { settings = settings; calls = calls; answered = failed refl asked; left = state; tables = tables ∙ quiet told; cause = rose }
+pub failed-so : (old new : Parts) (command : Command) (before later : Shown) → new.settings ≡ old.settings → new.calls ≡ old.calls → new.state ≡ old.state
+    → IsTrue (commits command (turn old.settings old.state old.state.last command).effects) → Leaves (items_due old command) failing before later → Recorded old new command store_fault before later
+failed-so old new command before later settings calls state asked leaves =
+    record { settings = settings; calls = calls; answered = failed refl asked; left = state; records = leaves }
 
 -- what the repository keeps is kept by a turn of it
 pub kept-more : (old new : Whole) (e : Entry) → IsKept old → Fits old.settings old.state e → new.state ≡ after old.settings old.state e → new.settings ≡ old.settings
@@ -302,38 +295,26 @@ kept-more old new e kept fits state settings tables =
           let same : with_items before (recorded (effects_of old.settings old.state e)) ≡ t = cc in
           subst (Tell (after old.settings old.state e)) same (record { order = more.1; holds = more.2 })
 
--- what asks no records leaves unsettled what was so
-still-crash : (items : List Item) (told : Option Tables) (now : Unsettled) (reply : Reply) → items ≡ [] → (reply ≡ store_fault → ⊥) → HasReplyCrash items told now now reply
-still-crash items told now store_fault none other = absurd (other refl)
-still-crash items told now no_memory none other = inl refl
-still-crash items told now reply none other = inl (none, refl)
-
 -- a command that records nothing, and what was asked for
-module _ (old new : Parts) (asked command : Command) (reply : Reply) (told : Option Tables) (n : ℕ) (now : Unsettled) where
-  abbrev items : List Item
-  items = recorded (turn old.settings old.state old.state.last asked).effects
-
-  pub alone : asked ≡ command → items ≡ [] → IsSettled asked reply now → Turned old new asked reply
-      → Recorded old new command reply told told n n × IsSettled command reply now × HasReplyCrash (recorded (turn old.settings old.state old.state.last command).effects) told now now reply
-  alone same none settled turned =
-      subst (λ q. Recorded old new q reply told told n n × IsSettled q reply now × HasReplyCrash (recorded (turn old.settings old.state old.state.last q).effects) told now now reply) same
-      (recorded-so old new asked reply told told n n turned (by (is_free reply)) refl, settled, still-crash items told now reply none (no-failure old new asked reply turned)) where
-        by : (b : Bool) → told ≡ (if b then told else tables_with items told)
-        by true = refl
-        by false = quiet told ∙ ap (λ is. tables_with is told) (sym none)
+module _ (old new : Parts) (asked command : Command) (reply : Reply) (now : Shown) where
+  pub alone : asked ≡ command → items_due old asked ≡ [] → IsSettled asked reply now.unsettled → now.IsReady → Turned old new asked reply
+      → Recorded old new command reply now now × IsSettled command reply now.unsettled
+  alone same none settled ready turned =
+      subst (λ q. Recorded old new q reply now now × IsSettled q reply now.unsettled) same
+      (recorded-so old new asked reply now now turned (quiet-by (items_due old asked) now reply none ready (no-failure old new asked reply turned)), settled)
 
 -- a reply that is none of failure
-pub committed-crash : (items : List Item) (told : Option Tables) (before after : Unsettled) (reply : Reply) → is_free reply ≡ false → IsCommitted items told before after → HasReplyCrash items told before after reply
-committed-crash items told before after store_fault bound done = absurd (false≢true (sym bound))
-committed-crash items told before after no_memory bound done = absurd (false≢true (sym bound))
-committed-crash items told before after reply bound done = done
+pub committed-by : (items : List Item) (before later : Shown) (reply : Reply) → is_free reply ≡ false → Leaves items done before later → Leaves items (end_by reply) before later
+committed-by items before later store_fault bound leaves = absurd (false≢true (sym bound))
+committed-by items before later no_memory bound leaves = absurd (false≢true (sym bound))
+committed-by items before later reply bound leaves = leaves
 
 -- any command whose change is recorded
-pub recorded-by : (w new : Parts) (command : Command) (t : Turn) (reply : Reply) (told told' : Option Tables) (faults faults' : ℕ) → turn w.settings w.state w.state.last command ≡ t
+pub recorded-by : (w new : Parts) (command : Command) (t : Turn) (reply : Reply) (before later : Shown) → turn w.settings w.state w.state.last command ≡ t
     → takes_memory command ≡ true → (reply ≡ t.reply) ⊎ (IsTrue (is_free reply) × (reply ≡ store_fault → recorded t.effects ≡ [] → ⊥)) → new.settings ≡ w.settings → new.calls ≡ w.calls
-    → new.state ≡ with_effects w.state (if is_free reply then [] else t.effects) → told' ≡ (if is_free reply then told else tables_with (recorded t.effects) told) → HasReplyCause faults faults' reply
-    → Recorded w new command reply told told' faults faults'
-recorded-by w new command t reply told told' faults faults' is memory given settings calls left tables cause = record {
+    → new.state ≡ with_effects w.state (if is_free reply then [] else t.effects) → Leaves (recorded t.effects) (end_by reply) before later
+    → Recorded w new command reply before later
+recorded-by w new command t reply before later is memory given settings calls left leaves = record {
   settings = settings;
   calls = calls;
   answered = elim given as (λ _. IsAnswer w command reply) [
@@ -343,8 +324,7 @@ recorded-by w new command t reply told told' faults faults' is memory given sett
         (or-right (is_collect command) (not (length (recorded t.effects) == 0)) (some-items (recorded t.effects) (so.1 (sym here)))))) refl
   ];
   left = left ∙ ap (λ (u : Turn). with_effects w.state (if is_free reply then [] else u.effects)) (sym is);
-  tables = tables ∙ unless (is_free reply) t.effects told ∙ ap (λ (u : Turn). tables_with (recorded (if is_free reply then [] else u.effects)) told) (sym is);
-  cause = cause;
+  records = subst (λ (u : Turn). Leaves (recorded u.effects) (end_by reply) before later) (sym is) leaves;
 }
 
 pub recorded-given : (t : Turn) (reply : Reply) → (reply ≡ t.reply) ⊎ (IsTrue (is_free reply) × (recorded t.effects ≡ [] → ⊥))

@@ -5,6 +5,7 @@ use Rattle.repo_config.specs.Form.{IsSettings}
 use Rattle.repo_model.specs.Settings.{Settings}
 use Rattle.repo_model.specs.State.{State}
 use Rattle.repo_model.specs.Tables.{Tables}
+use Rattle.row_tables.specs.Leaving.{Shown}
 use Rattle.row_tables.specs.Crashes.{Unsettled}
 use Rattle.repo_laws.specs.Holds.{Holds, InOrder}
 use Rattle.repo_laws.specs.Sound.{IsSound, OnePlace, Sound}
@@ -28,9 +29,10 @@ pub record Whole : Type 0 where
 abbrev pub counting : ℕ → State → State
 counting faults s = record s { faults = faults }
 
-abbrev pub whole_of : Parts → Option Tables → Unsettled → ℕ → Whole
-whole_of p tables unsettled faults =
-    record { settings = p.settings; state = counting faults p.state; tables = tables; unsettled = unsettled; calls = p.calls }
+-- the parts over records that show this
+abbrev pub whole_of : Parts → Shown → Whole
+whole_of p now =
+    record { settings = p.settings; state = counting now.faults p.state; tables = now.tables; unsettled = now.unsettled; calls = p.calls }
 
 -- tables in order that hold the state
 pub record Tell (s : State) (t : Tables) : Type 0 where

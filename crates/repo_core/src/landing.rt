@@ -3,14 +3,12 @@ ghost use Rattle.std.specs.Prelude.{◌≡◌, IsTrue, Some};
 ghost use Rattle.std.specs.Option.{ForSome};
 ghost use Rattle.proxy_rules.specs.Landings.{shown_landed};
 ghost use Rattle.repo_model.specs.Command.{land, meets};
-ghost use Rattle.repo_model.specs.Effect.{recorded};
 ghost use Rattle.repo_model.specs.Shown.{outcome_map, shown_got, shown_reply};
 ghost use Rattle.repo_model.specs.State.{is_among};
-ghost use Rattle.repo_model.specs.Turn.{is_drawn, turn};
-ghost use Rattle.ordered_rows.specs.Recording.{FitWhereTold};
-ghost use Rattle.row_tables.specs.Crashes.{HasReplyCrash};
+ghost use Rattle.repo_model.specs.Turn.{is_drawn};
+ghost use Rattle.row_tables.specs.Leaving.{MayTake};
 ghost use Rattle.repo_parts.specs.Proxies.{kept_landed, yard_landed};
-ghost use Rattle.repo_core.specs.Turn.{Recorded};
+ghost use Rattle.repo_core.specs.Turn.{Recorded, items_due};
 ghost use Rattle.repo_core.specs.Whole.{IsOrderly};
 
 use crate::machine::Machine;
@@ -79,12 +77,8 @@ impl<C: Clock, H: Held> Machine<C, H> {
     ) -> Reply<H>
         requires meets { IsTrue (meets self.old.settings (land plan (outcome_map shown_got outcome))) }
         requires orderly { IsOrderly self.old }
-        requires ready { K.ready records.old }
-        requires items { FitWhereTold (K.tables records.old) (recorded (turn self.old.settings self.old.state self.old.state.last (land plan (outcome_map shown_got outcome))).effects) }
-        ensures turn { Recorded self.old self.new (land plan (outcome_map shown_got outcome)) (shown_reply result) (K.tables records.old) (K.tables records.new) (K.faults records.old) (K.faults records.new) }
-        ensures crashes { HasReplyCrash (recorded (turn self.old.settings self.old.state self.old.state.last (land plan (outcome_map shown_got outcome))).effects)
-            (K.tables records.old) (K.unsettled records.old) (K.unsettled records.new) (shown_reply result) }
-        ensures ready { K.ready records.new }
+        requires records { MayTake (items_due self.old (land plan (outcome_map shown_got outcome))) (K.shows records.old) }
+        ensures { Recorded self.old self.new (land plan (outcome_map shown_got outcome)) (shown_reply result) (K.shows records.old) (K.shows records.new) }
     {
         if !is_drawn(&self.yard, plan.draft) {
             return Reply::NoDraft;

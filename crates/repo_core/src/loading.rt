@@ -21,20 +21,20 @@ pub fn load<K: Records, B: Blobs>(
     records: &mut K,
     blobs: &mut B,
 ) -> Result<Tables, StartFault>
-    ensures tables { IfOk result (AreCompleted (K.tables records.old) (K.loading records.old) (B.shelf blobs.old)) }
+    ensures tables { IfOk result (AreCompleted (K.shows records.old).tables (K.loading records.old) (B.shelf blobs.old)) }
     ensures built { IfOk result IsBuiltUp }
-    ensures told { IfOk result (λ t. K.tables records.new ≡ option_map (λ _. t) (K.tables records.old)) }
-    ensures settled { OnOk result ((K.unsettled records.new).pending ≡ None) }
-    ensures ready { OnOk result (K.ready records.new) }
-    ensures same { OnOk result (K.faults records.new ≡ K.faults records.old) }
+    ensures told { IfOk result (λ t. (K.shows records.new).tables ≡ option_map (λ _. t) (K.shows records.old).tables) }
+    ensures settled { OnOk result ((K.shows records.new).unsettled.pending ≡ None) }
+    ensures ready { OnOk result (K.shows records.new).IsReady }
+    ensures same { OnOk result ((K.shows records.new).faults ≡ (K.shows records.old).faults) }
     ensures still { OnOk result (B.faults blobs.new ≡ B.faults blobs.old) }
     ensures refused { IfErr result (λ fault. IfSome (K.loading records.old) (λ expected. RefusesAs expected fault)) }
-    ensures unread { IfErr result (λ fault. IsUnread fault → K.tables records.old ≡ None) }
-    ensures damaged { IfErr result (λ fault. OnDamage fault (λ damage. (t : Plain) × AreLoaded (K.tables records.old) (K.loading records.old) t
+    ensures unread { IfErr result (λ fault. IsUnread fault → (K.shows records.old).tables ≡ None) }
+    ensures damaged { IfErr result (λ fault. OnDamage fault (λ damage. (t : Plain) × AreLoaded (K.shows records.old).tables (K.loading records.old) t
         × IsFirstDamaged (B.shelf blobs.old) (all_rows t) damage)) }
-    ensures front { OnErr result (IsDigestedWhereTold (B.shelf blobs.old) (K.tables records.old) (K.tables records.new)) }
+    ensures front { OnErr result (IsDigestedWhereTold (B.shelf blobs.old) (K.shows records.old).tables (K.shows records.new).tables) }
     ensures cause { IfErr result (λ fault.
-        HasStartCause (K.faults records.old) (K.faults records.new) (B.faults blobs.old) (B.faults blobs.new) fault) }
+        HasStartCause (K.shows records.old).faults (K.shows records.new).faults (B.faults blobs.old) (B.faults blobs.new) fault) }
     ensures kept { B.shelf blobs.new ≡ B.shelf blobs.old }
 {
     let mut tables = records.load(alloc)?;

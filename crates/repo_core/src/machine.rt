@@ -91,24 +91,20 @@ impl<C: Clock, H: Held> Machine<C, H> {
     ghost use Rattle.repo_model.specs.Command.{meets, look, may_put, put, put_side, drop_draft, unlist, collect, ask};
     ghost use Rattle.repo_model.specs.declared.question.Question.TheVariants.{Status};
     ghost use Rattle.repo_model.specs.Asked.{finding_of};
-    ghost use Rattle.repo_model.specs.Effect.{recorded};
-    ghost use Rattle.repo_model.specs.History.{Fits, after, effects_of, latest_moment};
+    ghost use Rattle.repo_model.specs.History.{Fits, after, latest_moment};
     ghost use Rattle.repo_model.specs.Purge.{expire_all, most_rows};
     ghost use Rattle.repo_model.specs.Reply.{is_free};
     ghost use Rattle.repo_model.specs.Shown.{shown_parcel, shown_command, shown_reply, entry_of};
-    ghost use Rattle.repo_model.specs.Turn.{turn};
-    ghost use Rattle.row_tables.specs.Commits.{tables_with};
+    ghost use Rattle.row_tables.specs.Leaving.{Leaves, MayTake, end_by};
     ghost use Rattle.row_tables.specs.Crashing.{tried};
-    ghost use Rattle.row_tables.specs.Crashes.{HasReplyCrash};
     ghost use Rattle.hosted_repo.specs.Expired.{blob_of};
-    ghost use Rattle.ordered_rows.specs.Recording.{FitWhereTold, HasReplyCause};
     ghost use Rattle.repo_parts.specs.Deploys.{AreStagedInUse};
     ghost use Rattle.repo_parts.specs.Hosted.{AreInUse, rules_of};
     ghost use Rattle.repo_parts.specs.Proxies.{AreCachedInUse, proxy_rules_of};
     ghost use Rattle.repo_parts.specs.Purge.{shares};
     ghost use Rattle.repo_parts.specs.Shelves.{AreShelved};
     ghost use Rattle.repo_core.specs.Stock.{state_of};
-    ghost use Rattle.repo_core.specs.Turn.{IsSettled, IsSettledBy, MayRecord, Recorded, Turned};
+    ghost use Rattle.repo_core.specs.Turn.{IsSettled, IsSettledBy, MayRecord, Recorded, Turned, items_due};
     ghost use Rattle.repo_core.specs.Whole.{IsOrderly, counting};
 
     /// The repository that begins with a stock of files, numbers and sessions.
@@ -155,19 +151,14 @@ impl<C: Clock, H: Held> Machine<C, H> {
     pub fn call<K: Records>(&mut self, records: &mut K, command: Command<H>) -> Reply<H>
         requires meets { IsTrue (meets self.old.settings (shown_command command)) }
         requires orderly { IsOrderly self.old }
-        requires ready { K.ready records.old }
-        requires items { MayRecord self.old (K.tables records.old) (shown_command command) }
-        ensures fits { Fits self.old.settings (counting (K.faults records.old) self.old.state)
-            (entry_of command self.new.state.last result (K.faults records.new)) }
-        ensures after { counting (K.faults records.new) self.new.state ≡ after self.old.settings (counting (K.faults records.old) self.old.state)
-            (entry_of command self.new.state.last result (K.faults records.new)) }
-        ensures tables { K.tables records.new ≡ tables_with (recorded (effects_of self.old.settings (counting (K.faults records.old) self.old.state)
-            (entry_of command self.new.state.last result (K.faults records.new)))) (K.tables records.old) }
-        ensures cause { HasReplyCause (K.faults records.old) (K.faults records.new) (shown_reply result) }
-        ensures settled { IsSettled (shown_command command) (shown_reply result) (K.unsettled records.new) }
-        ensures crashes { HasReplyCrash (tried self.old.settings (counting (K.faults records.old) self.old.state)
-            (entry_of command self.new.state.last result (K.faults records.new))) (K.tables records.old) (K.unsettled records.old) (K.unsettled records.new) (shown_reply result) }
-        ensures ready { K.ready records.new }
+        requires records { MayRecord self.old (K.shows records.old) (shown_command command) }
+        ensures fits { Fits self.old.settings (counting (K.shows records.old).faults self.old.state)
+            (entry_of command self.new.state.last result (K.shows records.new).faults) }
+        ensures after { counting (K.shows records.new).faults self.new.state ≡ after self.old.settings (counting (K.shows records.old).faults self.old.state)
+            (entry_of command self.new.state.last result (K.shows records.new).faults) }
+        ensures records { Leaves (tried self.old.settings (counting (K.shows records.old).faults self.old.state)
+            (entry_of command self.new.state.last result (K.shows records.new).faults)) (end_by (shown_reply result)) (K.shows records.old) (K.shows records.new) }
+        ensures settled { IsSettled (shown_command command) (shown_reply result) (K.shows records.new).unsettled }
         ensures settings { self.new.settings ≡ self.old.settings }
         ensures calls { self.new.calls ≡ min (self.old.calls + 1) last_count }
     {
@@ -212,12 +203,9 @@ impl<C: Clock, H: Held> Machine<C, H> {
     fn answer<K: Records>(&mut self, records: &mut K, command: Command<H>) -> Reply<H>
         requires meets { IsTrue (meets self.old.settings (shown_command command)) }
         requires orderly { IsOrderly self.old }
-        requires ready { K.ready records.old }
-        requires items { FitWhereTold (K.tables records.old) (recorded (turn self.old.settings self.old.state self.old.state.last (shown_command command)).effects) }
-        ensures turn { Recorded self.old self.new (shown_command command) (shown_reply result) (K.tables records.old) (K.tables records.new) (K.faults records.old) (K.faults records.new) }
-        ensures settled { IsSettled (shown_command command) (shown_reply result) (K.unsettled records.new) }
-        ensures crashes { HasReplyCrash (recorded (turn self.old.settings self.old.state self.old.state.last (shown_command command)).effects) (K.tables records.old) (K.unsettled records.old) (K.unsettled records.new) (shown_reply result) }
-        ensures ready { K.ready records.new }
+        requires records { MayTake (items_due self.old (shown_command command)) (K.shows records.old) }
+        ensures turn { Recorded self.old self.new (shown_command command) (shown_reply result) (K.shows records.old) (K.shows records.new) }
+        ensures settled { IsSettled (shown_command command) (shown_reply result) (K.shows records.new).unsettled }
     {
         match command {
             Command::Look { repo, path, tried } => {
@@ -309,12 +297,8 @@ impl<C: Clock, H: Held> Machine<C, H> {
     ) -> Reply<H>
         requires meets { IsTrue (meets self.old.settings (put repo.now path.now draft (shown_parcel parcel))) }
         requires orderly { IsOrderly self.old }
-        requires ready { K.ready records.old }
-        requires items { FitWhereTold (K.tables records.old) (recorded (turn self.old.settings self.old.state self.old.state.last (put repo.now path.now draft (shown_parcel parcel))).effects) }
-        ensures turn { Recorded self.old self.new (put repo.now path.now draft (shown_parcel parcel)) (shown_reply result) (K.tables records.old) (K.tables records.new) (K.faults records.old) (K.faults records.new) }
-        ensures crashes { HasReplyCrash (recorded (turn self.old.settings self.old.state self.old.state.last (put repo.now path.now draft (shown_parcel parcel))).effects)
-            (K.tables records.old) (K.unsettled records.old) (K.unsettled records.new) (shown_reply result) }
-        ensures ready { K.ready records.new }
+        requires records { MayTake (items_due self.old (put repo.now path.now draft (shown_parcel parcel))) (K.shows records.old) }
+        ensures { Recorded self.old self.new (put repo.now path.now draft (shown_parcel parcel)) (shown_reply result) (K.shows records.old) (K.shows records.new) }
     {
         if !self.yard.is_draft(draft) {
             return Reply::NoDraft;
@@ -341,11 +325,8 @@ impl<C: Clock, H: Held> Machine<C, H> {
     fn unlist<K: Records>(&mut self, records: &mut K, repo: &str) -> Reply<H>
         requires meets { IsTrue (meets self.old.settings (unlist repo.now)) }
         requires orderly { IsOrderly self.old }
-        requires ready { K.ready records.old }
-        requires items { FitWhereTold (K.tables records.old) (recorded (turn self.old.settings self.old.state self.old.state.last (unlist repo.now)).effects) }
-        ensures turn { Recorded self.old self.new (unlist repo.now) (shown_reply result) (K.tables records.old) (K.tables records.new) (K.faults records.old) (K.faults records.new) }
-        ensures crashes { HasReplyCrash (recorded (turn self.old.settings self.old.state self.old.state.last (unlist repo.now)).effects) (K.tables records.old) (K.unsettled records.old) (K.unsettled records.new) (shown_reply result) }
-        ensures ready { K.ready records.new }
+        requires records { MayTake (items_due self.old (unlist repo.now)) (K.shows records.old) }
+        ensures { Recorded self.old self.new (unlist repo.now) (shown_reply result) (K.shows records.old) (K.shows records.new) }
     {
         let did = repo_mut(&mut self.repos, repo).unlist(records, self.last);
         forget(&mut self.shelves, &changed_by_unlist(did));
@@ -359,12 +340,9 @@ impl<C: Clock, H: Held> Machine<C, H> {
     // Collect always commits, an empty change too, so that nothing is given out to be removed that a failed commit may name.
     fn collect<K: Records>(&mut self, records: &mut K) -> Reply<H>
         requires orderly { IsOrderly self.old }
-        requires ready { K.ready records.old }
-        requires items { FitWhereTold (K.tables records.old) (recorded (turn self.old.settings self.old.state self.old.state.last collect).effects) }
-        ensures turn { Recorded self.old self.new collect (shown_reply result) (K.tables records.old) (K.tables records.new) (K.faults records.old) (K.faults records.new) }
-        ensures settled { IsSettledBy (shown_reply result) (K.unsettled records.new) }
-        ensures crashes { HasReplyCrash (recorded (turn self.old.settings self.old.state self.old.state.last collect).effects) (K.tables records.old) (K.unsettled records.old) (K.unsettled records.new) (shown_reply result) }
-        ensures ready { K.ready records.new }
+        requires records { MayTake (items_due self.old collect) (K.shows records.old) }
+        ensures turn { Recorded self.old self.new collect (shown_reply result) (K.shows records.old) (K.shows records.new) }
+        ensures settled { IsSettledBy (shown_reply result) (K.shows records.new).unsettled }
     {
         let alloc = *self.repos.allocator();
         let grace = self.settings.grace_seconds();

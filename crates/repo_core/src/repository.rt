@@ -31,38 +31,29 @@ impl<K: Records, C: Clock, H: Held> Model for Core<K, C, H> {
 
     ghost coded = { Prim.hlevel (codes, trace_code) };
 
-    ghost view = { λ c. whole_of c.machine (K.tables c.records) (K.unsettled c.records) (K.faults c.records) };
+    ghost view = { λ c. whole_of c.machine (K.shows c.records) };
 
     ghost invariant = { λ c. record {
-      kept : IsKept (whole_of c.machine (K.tables c.records) (K.unsettled c.records) (K.faults c.records));
-      ready : K.ready c.records;
+      kept : IsKept (whole_of c.machine (K.shows c.records));
+      ready : (K.shows c.records).IsReady;
     } };
 }
 
 impl<K: Records, C: Clock, H: Held> Core<K, C, H> {
-    ghost use Rattle.std.specs.Prelude.{◌≡◌, ◌+◌, min, IsTrue};
-    ghost use Rattle.std.specs.Option.{ForSome};
-    ghost use Rattle.ordered_rows.specs.Recording.{HasReplyCause};
-    ghost use Rattle.outside.specs.Faults.{last_count};
-    ghost use Rattle.repo_model.specs.Asking.{IsAnswerTo};
+    ghost use Rattle.std.specs.Prelude.{◌≡◌, IsTrue};
     ghost use Rattle.repo_model.specs.Command.{meets};
-    ghost use Rattle.repo_model.specs.Effect.{recorded};
-    ghost use Rattle.repo_model.specs.History.{Fits, after, effects_of};
-    ghost use Rattle.repo_model.specs.Shown.{shown_command, shown_reply, entry_of};
-    ghost use Rattle.repo_laws.specs.Holds.{Holds};
+    ghost use Rattle.repo_model.specs.Shown.{shown_command, shown_reply};
     ghost use Rattle.repo_laws.specs.Laws.{KeepsReleases};
-    ghost use Rattle.repo_laws.specs.Sound.{IsSound};
-    ghost use Rattle.row_tables.specs.Commits.{tables_with};
-    ghost use Rattle.row_tables.specs.Crashing.{Crashing};
+    ghost use Rattle.row_tables.specs.Leaving.{HasCause, end_by};
     ghost use Rattle.row_tables.specs.Crashes.{Rests};
-    ghost use Rattle.repo_core.specs.Turn.{IsSettled};
+    ghost use Rattle.repo_core.specs.CoreTurn.{CoreStep};
     ghost use Rattle.repo_core.specs.Whole.{IsKept, whole_of};
 
     /// The core of a machine and of records that are ready. The state is sound, and the tables, where told, hold it.
     pub(crate) fn over(machine: Machine<C, H>, records: K) -> Core<K, C, H>
-        requires kept { IsKept (whole_of machine (K.tables records) (K.unsettled records) (K.faults records)) }
-        requires ready { K.ready records }
-        ensures { result ≡ whole_of machine (K.tables records) (K.unsettled records) (K.faults records) }
+        requires kept { IsKept (whole_of machine (K.shows records)) }
+        requires ready { (K.shows records).IsReady }
+        ensures { result ≡ whole_of machine (K.shows records) }
     {
         Core { machine, records }
     }
@@ -81,20 +72,10 @@ impl<K: Records, C: Clock, H: Held> Core<K, C, H> {
     /// call or those after it, or one of these with the change whose commit failed and is not undone.
     pub fn call(&mut self, command: Command<H>) -> Reply<H>
         requires { IsTrue (meets self.old.settings (shown_command command)) }
-        ensures fits { Fits self.old.settings self.old.state (entry_of command self.new.state.last result self.new.state.faults) }
-        ensures after { self.new.state ≡ after self.old.settings self.old.state (entry_of command self.new.state.last result self.new.state.faults) }
-        ensures tables { self.new.tables ≡ tables_with (recorded (effects_of self.old.settings self.old.state
-            (entry_of command self.new.state.last result self.new.state.faults))) self.old.tables }
-        ensures holds { ForSome self.new.tables (λ t. Holds t self.new.state) }
-        ensures crashes { Crashing self.old.settings self.old.state (entry_of command self.new.state.last result self.new.state.faults)
-            self.old.tables self.new.tables self.old.unsettled self.new.unsettled }
-        ensures settled { IsSettled (shown_command command) (shown_reply result) self.new.unsettled }
-        ensures cause { HasReplyCause self.old.state.faults self.new.state.faults (shown_reply result) }
-        ensures answer { IsAnswerTo self.old.settings (shown_command command) (shown_reply result) }
-        ensures settings { self.new.settings ≡ self.old.settings }
-        ensures calls { self.new.calls ≡ min (self.old.calls + 1) last_count }
+        ensures step { CoreStep self.old command result self.new }
+        ensures cause { HasCause (end_by (shown_reply result)) self.old.state.faults self.new.state.faults }
         ensures releases { KeepsReleases self.old.state self.new.state }
-        ensures sound { IsSound self.new.settings self.new.state }
+        ensures kept { IsKept self.new }
     {
         self.machine.call(&mut self.records, command)
     }
@@ -126,11 +107,11 @@ impl<K: Records, C: Clock, H: Held> Core<K, C, H> {
 
     /// Gives the records and the clock back.
     pub fn end(self) -> (K, C)
-        ensures tables { K.tables result.0 ≡ self.tables }
-        ensures faults { K.faults result.0 ≡ self.state.faults }
-        ensures settled { K.unsettled result.0 ≡ self.unsettled }
+        ensures tables { (K.shows result.0).tables ≡ self.tables }
+        ensures faults { (K.shows result.0).faults ≡ self.state.faults }
+        ensures settled { (K.shows result.0).unsettled ≡ self.unsettled }
         ensures rests { Rests self.tables self.unsettled }
-        ensures ready { K.ready result.0 }
+        ensures ready { (K.shows result.0).IsReady }
         ensures clock { C.moments result.1 ≡ self.state.clock }
     {
         let Core { machine, records } = self;

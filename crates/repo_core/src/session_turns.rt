@@ -11,18 +11,15 @@ use repo_parts::{
 use row_tables::Records;
 
 impl<C: Clock, H: Held> Machine<C, H> {
-    ghost use Rattle.std.specs.Prelude.{◌≡◌, IsTrue};
+    ghost use Rattle.std.specs.Prelude.{IsTrue};
     ghost use Rattle.mvn_digest.specs.Sides.{bytes_in};
     ghost use Rattle.repo_model.specs.Data.{session};
     ghost use Rattle.repo_model.specs.Command.{meets, may_put, put_side, put_doc, open_session, stage, commit, abort};
-    ghost use Rattle.repo_model.specs.Effect.{recorded};
     ghost use Rattle.repo_model.specs.Shown.{shown_parcel, shown_reply};
     ghost use Rattle.repo_model.specs.State.{is_among};
-    ghost use Rattle.repo_model.specs.Turn.{turn};
-    ghost use Rattle.ordered_rows.specs.Recording.{FitWhereTold};
-    ghost use Rattle.row_tables.specs.Crashes.{HasReplyCrash};
+    ghost use Rattle.row_tables.specs.Leaving.{MayTake};
     ghost use Rattle.deploy_session.specs.Shown.{shown_abort, shown_begin, shown_commit, shown_stage};
-    ghost use Rattle.repo_core.specs.Turn.{Recorded, Turned};
+    ghost use Rattle.repo_core.specs.Turn.{Recorded, Turned, items_due};
     ghost use Rattle.repo_core.specs.Whole.{IsOrderly};
 
     /// Draws a draft for a file of the session of a number, where it may be staged.
@@ -55,11 +52,8 @@ impl<C: Clock, H: Held> Machine<C, H> {
 
     /// Opens a session.
     pub(crate) fn open<K: Records>(&mut self, records: &mut K, repo: &str) -> Begin
-        requires ready { K.ready records.old }
-        requires items { FitWhereTold (K.tables records.old) (recorded (turn self.old.settings self.old.state self.old.state.last (open_session repo.now)).effects) }
-        ensures turn { Recorded self.old self.new (open_session repo.now) (shown_begin result) (K.tables records.old) (K.tables records.new) (K.faults records.old) (K.faults records.new) }
-        ensures crashes { HasReplyCrash (recorded (turn self.old.settings self.old.state self.old.state.last (open_session repo.now)).effects) (K.tables records.old) (K.unsettled records.old) (K.unsettled records.new) (shown_begin result) }
-        ensures ready { K.ready records.new }
+        requires records { MayTake (items_due self.old (open_session repo.now)) (K.shows records.old) }
+        ensures { Recorded self.old self.new (open_session repo.now) (shown_begin result) (K.shows records.old) (K.shows records.new) }
     {
         let begun = self.sessions.begin(records, repo);
         settle_begun(&mut self.yard, begun);
@@ -99,11 +93,8 @@ impl<C: Clock, H: Held> Machine<C, H> {
     /// Deploys a session's files.
     pub(crate) fn commit<K: Records>(&mut self, records: &mut K, number: u64) -> Commit
         requires orderly { IsOrderly self.old }
-        requires ready { K.ready records.old }
-        requires items { FitWhereTold (K.tables records.old) (recorded (turn self.old.settings self.old.state self.old.state.last (commit number)).effects) }
-        ensures turn { Recorded self.old self.new (commit number) (shown_commit result) (K.tables records.old) (K.tables records.new) (K.faults records.old) (K.faults records.new) }
-        ensures crashes { HasReplyCrash (recorded (turn self.old.settings self.old.state self.old.state.last (commit number)).effects) (K.tables records.old) (K.unsettled records.old) (K.unsettled records.new) (shown_commit result) }
-        ensures ready { K.ready records.new }
+        requires records { MayTake (items_due self.old (commit number)) (K.shows records.old) }
+        ensures { Recorded self.old self.new (commit number) (shown_commit result) (K.shows records.old) (K.shows records.new) }
     {
         let did = commit(
             &mut self.repos,
@@ -120,11 +111,8 @@ impl<C: Clock, H: Held> Machine<C, H> {
     /// Gives a session up.
     pub(crate) fn abort<K: Records>(&mut self, records: &mut K, number: u64) -> Abort
         requires orderly { IsOrderly self.old }
-        requires ready { K.ready records.old }
-        requires items { FitWhereTold (K.tables records.old) (recorded (turn self.old.settings self.old.state self.old.state.last (abort number)).effects) }
-        ensures turn { Recorded self.old self.new (abort number) (shown_abort result) (K.tables records.old) (K.tables records.new) (K.faults records.old) (K.faults records.new) }
-        ensures crashes { HasReplyCrash (recorded (turn self.old.settings self.old.state self.old.state.last (abort number)).effects) (K.tables records.old) (K.unsettled records.old) (K.unsettled records.new) (shown_abort result) }
-        ensures ready { K.ready records.new }
+        requires records { MayTake (items_due self.old (abort number)) (K.shows records.old) }
+        ensures { Recorded self.old self.new (abort number) (shown_abort result) (K.shows records.old) (K.shows records.new) }
     {
         let did = self.sessions.abort(records, number);
         condemn_left(&mut self.yard, &did);

@@ -91,28 +91,28 @@ pub fn start<K: Records, B: Blobs, C: Clock>(
     clock: C,
 ) -> Result<Core<K, C, B::Held>, (StartFault, K, C)>
     ensures settings { IfOk result (λ core. core.settings ≡ settings) }
-    ensures state { IfOk result (λ core. (t : Plain) × AreCompleted (K.tables records) (K.loading records) (B.shelf blobs.old) t
-        × (core.tables ≡ option_map (λ _. t) (K.tables records))
-        × Starts settings t (B.shelf blobs.old) (B.shelf blobs.new) (C.moments clock) (K.faults records) core.state) }
-    ensures tables { IfOk result (λ core. IsDigestedWhereTold (B.shelf blobs.old) (K.tables records) core.tables) }
+    ensures state { IfOk result (λ core. (t : Plain) × AreCompleted (K.shows records).tables (K.loading records) (B.shelf blobs.old) t
+        × (core.tables ≡ option_map (λ _. t) (K.shows records).tables)
+        × Starts settings t (B.shelf blobs.old) (B.shelf blobs.new) (C.moments clock) (K.shows records).faults core.state) }
+    ensures tables { IfOk result (λ core. IsDigestedWhereTold (B.shelf blobs.old) (K.shows records).tables core.tables) }
     ensures complete { IfOk result (λ core. ForSome core.tables IsComplete) }
     ensures stands { IfOk result (λ core. ForSome core.tables (λ t. StandsFor t core.state)) }
     ensures calls { IfOk result (λ core. core.calls ≡ 0) }
     ensures settled { IfOk result (λ core. core.unsettled.pending ≡ None) }
     ensures rests { IfOk result (λ core. Rests core.tables core.unsettled) }
     // Where nothing was recorded or stored yet, it is the state before the first turn.
-    ensures opening { IfOk result (λ core. IfSome (K.tables records) (λ t. t ≡ no_tables → IfSome (B.shelf blobs.old).blobs (λ them. them ≡ []
-        → core.state ≡ counting (K.faults records) (opening settings (C.moments clock))))) }
+    ensures opening { IfOk result (λ core. IfSome (K.shows records).tables (λ t. t ≡ no_tables → IfSome (B.shelf blobs.old).blobs (λ them. them ≡ []
+        → core.state ≡ counting (K.shows records).faults (opening settings (C.moments clock))))) }
     ensures still { OnOk result (B.faults blobs.new ≡ B.faults blobs.old) }
     ensures refused { IfErr result (λ error. IfSome (K.loading records) (λ expected. RefusesAs expected error.0)) }
-    ensures unread { IfErr result (λ error. IsUnread error.0 → K.tables records ≡ None) }
+    ensures unread { IfErr result (λ error. IsUnread error.0 → (K.shows records).tables ≡ None) }
     ensures damaged { IfErr result (λ error. OnDamage error.0 (λ damage. (loaded t : Plain)
-        × AreLoaded (K.tables records) (K.loading records) loaded × IsDigested (B.shelf blobs.old) loaded t × IsFirstDamaged (B.shelf blobs.old) (all_rows t) damage × (B.shelf blobs.new ≡ B.shelf blobs.old))) }
-    ensures shelf { OnErr result ((B.shelf blobs.new ≡ B.shelf blobs.old) ⊎ ((t : Plain) × AreLoaded (K.tables records) (K.loading records) t
+        × AreLoaded (K.shows records).tables (K.loading records) loaded × IsDigested (B.shelf blobs.old) loaded t × IsFirstDamaged (B.shelf blobs.old) (all_rows t) damage × (B.shelf blobs.new ≡ B.shelf blobs.old))) }
+    ensures shelf { OnErr result ((B.shelf blobs.new ≡ B.shelf blobs.old) ⊎ ((t : Plain) × AreLoaded (K.shows records).tables (K.loading records) t
         × ClearsFront (blobs_named t) (B.shelf blobs.old) (B.shelf blobs.new))) }
     ensures cause { IfErr result (λ error.
-        HasStartCause (K.faults records) (K.faults error.1) (B.faults blobs.old) (B.faults blobs.new) error.0) }
-    ensures records { IfErr result (λ error. IsDigestedWhereTold (B.shelf blobs.old) (K.tables records) (K.tables error.1)) }
+        HasStartCause (K.shows records).faults (K.shows error.1).faults (B.faults blobs.old) (B.faults blobs.new) error.0) }
+    ensures records { IfErr result (λ error. IsDigestedWhereTold (B.shelf blobs.old) (K.shows records).tables (K.shows error.1).tables) }
     ensures clock { IfErr result (λ error. error.2 ≡ clock) }
 {
     // Their ids differ, and have their form.

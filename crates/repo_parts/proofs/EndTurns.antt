@@ -25,11 +25,9 @@ use Rattle.repo_laws.proofs.Orderly.{found-has}
 use Rattle.repo_laws.specs.Sound.{IsInOrder}
 use Rattle.repo_parts.proofs.HostedLemmas.{lent-rows, lent-still, rows-found, rule-there, with_lent}
 use Rattle.repo_model.specs.Settings.{Rule, Settings}
-use Rattle.repo_model.specs.Tables.{Tables}
 use Rattle.repo_model.specs.Turn.{Turn, abort_of, commit_by, commit_of, says, with_open}
 use Rattle.repo_model.specs.declared.session.SessionResult.{SessionResult}
 use Rattle.repo_model.specs.declared.session.SessionResult.TheVariants.{Aborted, Done}
-use Rattle.row_tables.specs.Commits.{tables_with}
 use Rattle.repo_parts.specs.Deploys.{AreStagedInUse, commit_in, hosted_after_all}
 use Rattle.repo_parts.specs.Hosted.{AreInUse, rows_in, rules_of, with_rows}
 use Rattle.repo_parts.specs.Proxies.{AreCachedInUse}
@@ -236,11 +234,6 @@ module _ (n now : ℕ) (sessions : List Session) (hosted : List Hosted) where
     by : (found : Option Session) → AllByRecursion IsGoing (with_open found (λ (known : Session). commit_of known now (rows_in known.repo hosted) known.ended)).effects
     by None = tt
     by (Some one) = ending-going one.repo (commit_of one now (rows_in one.repo hosted) one.ended).effects (commit-ends one now (rows_in one.repo hosted) one.ended)
-
--- nothing is recorded
-pub quiet : (told : Option Tables) → told ≡ tables_with [] told
-quiet None = refl
-quiet (Some t) = refl
 
 -- the repositories where that of a session comes back from a commit
 pub placed : (repo : List ℕ) (es : List Effect) (items : List Hosted) (old new : Hosted) (free : Bool) → AllByRecursion (IsEnding repo) es → find (is_repository repo) items ≡ Some old

@@ -9,12 +9,10 @@ use Rattle.repo_model.specs.Effect.{Effect, drops, proxies_after, recorded, with
 use Rattle.repo_model.specs.Settings.{ProxyRule}
 use Rattle.repo_model.specs.Shown.{shown_got, outcome_map}
 use Rattle.repo_model.specs.State.{Yard, is_among}
-use Rattle.repo_model.specs.Tables.{Tables}
 use Rattle.repo_model.specs.Turn.{lands_by}
 use Rattle.repo_model.specs.declared.fetched.Got.{Got}
 use Rattle.repo_laws.specs.Files.{files_in}
-use Rattle.row_tables.specs.Commits.{tables_with}
-use Rattle.ordered_rows.specs.Recording.{HasReplyCause}
+use Rattle.row_tables.specs.Leaving.{Leaves, Shown, end_by}
 use Rattle.proxy_rules.specs.Landings.{answer_of, has_failed, shown_landed}
 use Rattle.proxy_rules.specs.declared.landed.Landed.{Landed}
 use Rattle.proxy_rules.specs.declared.landed.Landed.TheVariants.{Kept, NotKept, StoreFault, NoMemory}
@@ -37,12 +35,11 @@ proxies_after_all [] proxies = proxies
 proxies_after_all (e ∷ effects) proxies = proxies_after_all effects (proxies_after e proxies)
 
 -- The effects are recorded and done, and answered as theirs; or, where the records failed or memory ran out, none of them is.
-pub record LandsIn (effects : List Effect) (old new : List Proxy) (told told_then : Option Tables) (faults faults_then : ℕ) (answer : Landed) : Type 0 where
+pub record LandsIn (effects : List Effect) (old new : List Proxy) (was now : Shown) (answer : Landed) : Type 0 where
   pub answered : (answer ≡ answer_of effects) ⊎ IsTrue (has_failed answer)
   pub asked : answer ≡ StoreFault → recorded effects ≢ []
   pub proxies : new ≡ (if has_failed answer then old else proxies_after_all effects old)
-  pub tables : told_then ≡ (if has_failed answer then told else tables_with (recorded effects) told)
-  pub cause : HasReplyCause faults faults_then (shown_landed answer)
+  pub records : Leaves (recorded effects) (end_by (shown_landed answer)) was now
 
 -- a landing is over: what becomes of its draft, where it has one
 abbrev pub yard_landed : Option ℕ → Landed → Yard → Yard

@@ -6,16 +6,14 @@ ghost use Rattle.mvn_coords.specs.Kind.{kind};
 ghost use Rattle.mvn_digest.specs.Sides.{bytes_in};
 ghost use Rattle.deploy_session.specs.Known.{garbage_by, known_after};
 ghost use Rattle.deploy_session.specs.Shown.{blobs_left, blobs_over, shown_abort, shown_begin, shown_commit, shown_stage};
-ghost use Rattle.ordered_rows.specs.Recording.{FitWhereTold, HasReplyCause};
 ghost use Rattle.repo_model.specs.Data as plain;
 ghost use Rattle.repo_model.specs.Effect.{recorded};
 ghost use Rattle.repo_model.specs.History.{latest_moment};
 ghost use Rattle.repo_model.specs.Reply.{is_free};
 ghost use Rattle.repo_model.specs.Shown.{shown_reply};
-ghost use Rattle.repo_model.specs.State.{State, is_among, is_open_at, is_repository, is_session, number_end};
+ghost use Rattle.repo_model.specs.State.{State, is_among, is_open_at, is_repository, number_end};
 ghost use Rattle.repo_model.specs.Turn.{judged, may_put_in, staged_at, with_open};
-ghost use Rattle.row_tables.specs.Commits.{tables_with};
-ghost use Rattle.row_tables.specs.Crashes.{HasReplyCrash};
+ghost use Rattle.row_tables.specs.Leaving.{Leaves, MayTake, end_by};
 ghost use Rattle.repo_parts.specs.Purge.{AreKeptOnce, condemned_by, kept_without};
 ghost use Rattle.repo_parts.specs.Deploys.{Draws, commit_in, drawn_unless, hosted_after_all, kept_staged, yard_opened, yard_staged};
 
@@ -204,8 +202,7 @@ pub fn commit<H: Held, K: Records>(
 ) -> Commit
     requires moment { now ≤ latest_moment }
     requires there { (s : plain.Session) → find (is_open_at session) sessions.old.sessions ≡ Some s → IsTrue (list_any (is_repository s.repo) repos.old.items) }
-    requires ready { K.ready records.old }
-    requires fits { FitWhereTold (K.tables records.old) (recorded (commit_in session now sessions.old.sessions repos.old.items).effects) }
+    requires records { MayTake (recorded (commit_in session now sessions.old.sessions repos.old.items).effects) (K.shows records.old) }
     ensures reply { (shown_commit result ≡ (commit_in session now sessions.old.sessions repos.old.items).reply) ⊎ IsTrue (is_free (shown_commit result)) }
     ensures asked { result ≡ Commit.StoreFault → recorded (commit_in session now sessions.old.sessions repos.old.items).effects ≢ [] }
     ensures sessions { sessions.new ≡ (if is_free (shown_commit result) then sessions.old
@@ -214,12 +211,7 @@ pub fn commit<H: Held, K: Records>(
         else hosted_after_all (commit_in session now sessions.old.sessions repos.old.items).effects repos.old.items) }
     ensures blobs { blobs_over result ≡ (if is_free (shown_commit result) then []
         else flat_map garbage_by (commit_in session now sessions.old.sessions repos.old.items).effects) }
-    ensures tables { K.tables records.new ≡ (if is_free (shown_commit result) then K.tables records.old
-        else tables_with (recorded (commit_in session now sessions.old.sessions repos.old.items).effects) (K.tables records.old)) }
-    ensures cause { HasReplyCause (K.faults records.old) (K.faults records.new) (shown_commit result) }
-    ensures crashes { HasReplyCrash (recorded (commit_in session now sessions.old.sessions repos.old.items).effects)
-        (K.tables records.old) (K.unsettled records.old) (K.unsettled records.new) (shown_commit result) }
-    ensures ready { K.ready records.new }
+    ensures records { Leaves (recorded (commit_in session now sessions.old.sessions repos.old.items).effects) (end_by (shown_commit result)) (K.shows records.old) (K.shows records.new) }
 {
     if let Some(how) = sessions.how_ended(session) {
         return Commit::kept(*repos.allocator(), how);

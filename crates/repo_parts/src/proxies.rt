@@ -9,9 +9,7 @@ ghost use Rattle.repo_model.specs.History.{latest_moment};
 ghost use Rattle.repo_model.specs.Shown.{outcome_map, shown_got};
 ghost use Rattle.repo_model.specs.State.{is_proxy};
 ghost use Rattle.row_tables.specs.Items.{is_number};
-ghost use Rattle.row_tables.specs.Crashes.{HasReplyCrash};
-ghost use Rattle.proxy_rules.specs.Landings.{shown_landed};
-ghost use Rattle.ordered_rows.specs.Recording.{FitWhereTold};
+ghost use Rattle.row_tables.specs.Leaving.{MayTake};
 ghost use Rattle.repo_parts.specs.Proxies.{LandsIn, landing_in};
 
 use fetch_plan::{Outcome, Plan};
@@ -59,13 +57,10 @@ pub fn land<H: Held, K: Records>(
 ) -> Landed
     requires there { IsTrue (list_any (is_proxy plan.now.proxy) proxies.old.items) }
     requires moment { moment ≤ latest_moment }
-    requires ready { K.ready records.old }
     requires landing { IsTrue (is_landing (kind plan.now.path) plan.now.draft (outcome_map shown_got outcome)) }
     requires draft { ForSome plan.now.draft (λ n. IsTrue (is_number n)) }
-    requires fits { FitWhereTold (K.tables records.old) (recorded (landing_in proxies.old.items moment plan.now outcome)) }
-    ensures lands { LandsIn (landing_in proxies.old.items moment plan.now outcome) proxies.old.items proxies.new.items (K.tables records.old) (K.tables records.new) (K.faults records.old) (K.faults records.new) result }
-    ensures crashes { HasReplyCrash (recorded (landing_in proxies.old.items moment plan.now outcome)) (K.tables records.old) (K.unsettled records.old) (K.unsettled records.new) (shown_landed result) }
-    ensures ready { K.ready records.new }
+    requires records { MayTake (recorded (landing_in proxies.old.items moment plan.now outcome)) (K.shows records.old) }
+    ensures { LandsIn (landing_in proxies.old.items moment plan.now outcome) proxies.old.items proxies.new.items (K.shows records.old) (K.shows records.new) result }
 {
     match place_of(proxies, plan.proxy.as_str()) {
         Some(place) => proxies[place].land(records, plan, outcome, moment),

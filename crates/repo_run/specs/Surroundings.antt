@@ -32,7 +32,8 @@ abbrev pub source_seen : {S : Type 0} → Telling S → S → File
 source_seen sources source = file (sources.left source) (sources.read_faults source)
 
 abbrev pub records_seen : {K : Type 0} → Recording K → K → Recorded
-records_seen recording records = records_told (recording.tables records) (recording.loading records) (recording.faults records) (recording.unsettled records)
+records_seen recording records =
+    let now = recording.shows records in records_told now.tables (recording.loading records) now.faults now.unsettled
 
 abbrev pub output_seen : {O : Type 0} → Telling O → O → Output
 output_seen sinks out = output (sinks.taken out) (sinks.write_faults out)

@@ -69,20 +69,20 @@ pub fn complete<K: Records, B: Blobs>(
     blobs: &mut B,
     tables: &mut Tables,
 ) -> Result<(), CompletionFault>
-    requires ready { K.ready records.old }
-    requires told { IfSome (K.tables records.old) (λ told. tables.old ≡ told) }
+    requires ready { (K.shows records.old).IsReady }
+    requires told { IfSome (K.shows records.old).tables (λ told. tables.old ≡ told) }
     requires built { IsBuiltUp tables.old }
     ensures digested { OnOk result (IsDigested (B.shelf blobs.old) tables.old tables.new) }
     ensures complete { OnOk result (IsComplete tables.new) }
     ensures built { OnOk result (IsBuiltUp tables.new) }
-    ensures recorded { OnOk result (K.tables records.new ≡ option_map (λ _. tables.new) (K.tables records.old)) }
-    ensures front { OnErr result (IsDigestedWhereTold (B.shelf blobs.old) (K.tables records.old) (K.tables records.new)) }
+    ensures recorded { OnOk result ((K.shows records.new).tables ≡ option_map (λ _. tables.new) (K.shows records.old).tables) }
+    ensures front { OnErr result (IsDigestedWhereTold (B.shelf blobs.old) (K.shows records.old).tables (K.shows records.new).tables) }
     ensures damaged { OnDamage result (λ damage.
-        IsFirstDamaged (B.shelf blobs.old) (all_rows tables.old) damage × (K.tables records.new ≡ K.tables records.old)) }
+        IsFirstDamaged (B.shelf blobs.old) (all_rows tables.old) damage × ((K.shows records.new).tables ≡ (K.shows records.old).tables)) }
     ensures still { IsComplete tables.old → (result ≡ Ok tt) × (records.new ≡ records.old) × (blobs.new ≡ blobs.old) × (tables.new ≡ tables.old) }
-    ensures cause { HasCompletionCause (K.faults records.old) (K.faults records.new) (B.faults blobs.old) (B.faults blobs.new) result }
-    ensures settled { (K.unsettled records.old).pending ≡ None → OnOk result ((K.unsettled records.new).pending ≡ None) }
-    ensures ready { K.ready records.new }
+    ensures cause { HasCompletionCause (K.shows records.old).faults (K.shows records.new).faults (B.faults blobs.old) (B.faults blobs.new) result }
+    ensures settled { (K.shows records.old).unsettled.pending ≡ None → OnOk result ((K.shows records.new).unsettled.pending ≡ None) }
+    ensures ready { (K.shows records.new).IsReady }
     ensures kept { B.shelf blobs.new ≡ B.shelf blobs.old }
 {
     // The rows rise, and stand at files' paths.

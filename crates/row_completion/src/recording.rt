@@ -6,7 +6,7 @@ ghost use Rattle.ordered_rows.specs.Recording.{IsShort};
 ghost use Rattle.repo_model.specs.Tables.{applied};
 ghost use Rattle.repo_model.specs.declared.item.Item.{Item as Recorded};
 ghost use Rattle.row_tables.specs.Applying.{with_items};
-ghost use Rattle.row_tables.specs.Records.{HasCommitCause};
+ghost use Rattle.row_tables.specs.Leaving.{HasCause, Leaves, end_of};
 
 use repo_model::Item;
 use row_tables::{ApplyFault, Change, CommitFault, Records, Tables};
@@ -43,18 +43,15 @@ fn commit_first<K: Records>(
     tables: &mut Tables,
     items: Vec<Item>,
 ) -> Result<Vec<Item>, CommitFault>
-    requires ready { K.ready records.old }
-    requires told { IfSome (K.tables records.old) (λ told. tables.old ≡ told) }
+    requires ready { (K.shows records.old).IsReady }
+    requires told { IfSome (K.shows records.old).tables (λ told. tables.old ≡ told) }
     requires short { AllByRecursion IsShort (reverse items.items) }
     requires fit { applied tables.old (reverse items.items) ≡ Ok (with_items tables.old (reverse items.items)) }
     ensures rest { IfOk result (λ rest. reverse rest.items ≡ drop (min 1000 (length items.items)) (reverse items.items)) }
     ensures fewer { IfOk result (λ rest. length rest.items + min 1000 (length items.items) ≡ length items.items) }
     ensures tables { OnOk result (tables.new ≡ with_items tables.old (take (min 1000 (length items.items)) (reverse items.items))) }
-    ensures recorded { OnOk result (K.tables records.new ≡ option_map (λ _. tables.new) (K.tables records.old)) }
-    ensures untold { OnErr result (K.tables records.new ≡ K.tables records.old) }
-    ensures cause { HasCommitCause (K.faults records.old) (K.faults records.new) result }
-    ensures settled { OnOk result ((K.unsettled records.new).pending ≡ None) }
-    ensures ready { K.ready records.new }
+    ensures records { Leaves (take (min 1000 (length items.items)) (reverse items.items)) (end_of result) (K.shows records.old) (K.shows records.new) }
+    ensures settled { OnOk result ((K.shows records.new).unsettled.pending ≡ None) }
 {
     let mut rest = items;
     let first = take_first(&mut rest)?;
@@ -76,17 +73,17 @@ pub fn commit_all<K: Records>(
     tables: &mut Tables,
     items: Vec<Item>,
 ) -> Result<(), CommitFault>
-    requires ready { K.ready records.old }
-    requires told { IfSome (K.tables records.old) (λ told. tables.old ≡ told) }
+    requires ready { (K.shows records.old).IsReady }
+    requires told { IfSome (K.shows records.old).tables (λ told. tables.old ≡ told) }
     requires short { AllByRecursion IsShort items.items }
     requires fit { applied tables.old items.items ≡ Ok (with_items tables.old items.items) }
     ensures tables { OnOk result (tables.new ≡ with_items tables.old items.items) }
-    ensures recorded { OnOk result (K.tables records.new ≡ option_map (λ _. tables.new) (K.tables records.old)) }
+    ensures recorded { OnOk result ((K.shows records.new).tables ≡ option_map (λ _. tables.new) (K.shows records.old).tables) }
     ensures front { OnErr result ((front rest : List Recorded) × (items.items ≡ front ++ rest)
-        × (K.tables records.new ≡ option_map (λ _. with_items tables.old front) (K.tables records.old))) }
-    ensures cause { HasCommitCause (K.faults records.old) (K.faults records.new) result }
-    ensures settled { (K.unsettled records.old).pending ≡ None → OnOk result ((K.unsettled records.new).pending ≡ None) }
-    ensures ready { K.ready records.new }
+        × ((K.shows records.new).tables ≡ option_map (λ _. with_items tables.old front) (K.shows records.old).tables)) }
+    ensures cause { HasCause (end_of result) (K.shows records.old).faults (K.shows records.new).faults }
+    ensures settled { (K.shows records.old).unsettled.pending ≡ None → OnOk result ((K.shows records.new).unsettled.pending ≡ None) }
+    ensures ready { (K.shows records.new).IsReady }
 {
     let mut rest = turned(items);
     while !rest.is_empty() {

@@ -4,3 +4,4 @@ pub mod Kept
 pub mod Applied
 pub mod Latest
 pub mod OneOf
+pub mod Leavings

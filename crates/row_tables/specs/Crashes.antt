@@ -1,14 +1,11 @@
 -- What a crash leaves of records, as the tables that a start then finds: between calls, and at each moment of one.
-use Rattle.std.specs.Prelude.{◌≡◌, ◌⊎◌, ℕ, List, [], ◌∷◌, ◌++◌, Option, Some, None, Result, Ok, Err}
+use Rattle.std.specs.Prelude.{◌≡◌, ◌⊎◌, ℕ, List, [], ◌∷◌, ◌++◌, Option, Some, None}
 use Rattle.record_disk.specs.Disk.{Throughout, Trace}
 use Rattle.repo_model.specs.declared.item.Item.{Item}
-use Rattle.repo_model.specs.Reply.{Reply, no_memory, store_fault}
 use Rattle.repo_model.specs.Tables.{Tables}
 use Rattle.row_tables.specs.Applying.{with_items}
 use Rattle.row_tables.specs.Commits.{tables_with}
 use Rattle.row_tables.specs.Loading.{tables_in}
-use Rattle.row_tables.specs.declared.faults.CommitFault.{CommitFault}
-use Rattle.row_tables.specs.declared.faults.CommitFault.TheVariants as commit
 
 -- What a crash may leave beside the tables: the change whose commit failed and that is not undone, and the calls on the file of records so far,
 -- where they are told.
@@ -61,14 +58,3 @@ IsLeftOut told old new = (new ≡ old) ⊎ (((new.pending ≡ None) ⊎ (new.pen
 abbrev pub HasNotCommitted : List Item → Option Tables → Unsettled → Unsettled → Type 0
 HasNotCommitted items told old new =
     ((new.pending ≡ None) ⊎ (new.pending ≡ old.pending) ⊎ (new.pending ≡ Some items)) × CrashesInside told told old new
-
--- what a call that commits items leaves unsettled, by its answer, over the tables from before it; and so by a reply
-abbrev pub HasCommitCrash : {T : Type 0} → List Item → Option Tables → Unsettled → Unsettled → Result T CommitFault → Type 0
-HasCommitCrash items told old new (Ok value) = IsCommitted items told old new
-HasCommitCrash items told old new (Err commit.Failed) = HasNotCommitted items told old new
-HasCommitCrash items told old new (Err commit.NoMemory) = IsLeftOut told old new
-
-abbrev pub HasReplyCrash : List Item → Option Tables → Unsettled → Unsettled → Reply → Type 0
-HasReplyCrash items told old new store_fault = HasNotCommitted items told old new
-HasReplyCrash items told old new no_memory = IsLeftOut told old new
-HasReplyCrash items told old new reply = IsCommitted items told old new

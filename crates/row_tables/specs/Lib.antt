@@ -8,3 +8,4 @@ pub mod Reading
 pub mod Loading
 pub mod Crashes
 pub mod Crashing
+pub mod Leaving

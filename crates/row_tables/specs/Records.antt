@@ -17,11 +17,6 @@ HasLoadCause before after (Err NoMemory) = after ≡ before
 HasLoadCause before after (Err NotOurs) = after ≡ before
 HasLoadCause before after (Err (Row frame at)) = after ≡ before
 
-abbrev pub HasCommitCause : {T : Type 0} → ℕ → ℕ → Result T CommitFault → Type 0
-HasCommitCause before after (Ok value) = after ≡ before
-HasCommitCause before after (Err commit.Failed) = Rose before after
-HasCommitCause before after (Err commit.NoMemory) = after ≡ before
-
 -- what is recorded cannot be read
 abbrev pub IsRefusal : {T : Type 0} → Result T LoadFault → Type 0
 IsRefusal (Ok value) = ⊥

@@ -2,8 +2,10 @@ ghost use Rattle.std.specs.Prelude.{◌≡◌, ◌↔◌, ◌++◌, [], Some, Ok
 ghost use Rattle.outside_memory.specs.Script.{script_of};
 ghost use Rattle.repo_model.specs.Tables.{applied, no_tables};
 ghost use Rattle.row_tables.specs.Applying.{with_items};
+ghost use Rattle.row_tables.specs.Leaving.{HasCause, end_of};
 ghost use Rattle.row_tables.specs.Recorded.{IsBuiltUp};
-ghost use Rattle.row_tables.specs.Records.{HasCommitCause, HasLoadCause, LoadsUnlessFailed, script_after_commit, script_after_load};
+ghost use Rattle.row_tables.specs.Crashes.{nothing_unsettled};
+ghost use Rattle.row_tables.specs.Records.{HasLoadCause, LoadsUnlessFailed, script_after_commit, script_after_load};
 
 use crate::change::Change;
 use crate::copies::copied_items;
@@ -54,13 +56,14 @@ impl MemRecords {
 }
 
 impl Records for MemRecords {
-    ghost faults = { λ m. m.script.faults };
-
-    ghost tables = { λ m. Some (with_items no_tables m.items) };
+    ghost shows = { λ m. record {
+      tables = Some (with_items no_tables m.items);
+      faults = m.script.faults;
+      unsettled = nothing_unsettled;
+      IsReady = Unit {0};
+    } };
 
     ghost loading = { λ m. Some (Ok (with_items no_tables m.items)) };
-
-    ghost ready = { λ _. Unit {0} };
 
     ghost rests = { λ m ready t told. tt };
 
@@ -84,7 +87,7 @@ impl Records for MemRecords {
 
     fn commit(&mut self, alloc: Global, change: &Change) -> Result<(), CommitFault>
         requires fits { applied (with_items no_tables self.old.items) change.now ≡ Ok (with_items (with_items no_tables self.old.items) change.now) }
-        ensures cause { HasCommitCause self.old.script.faults self.new.script.faults result }
+        ensures cause { HasCause (end_of result) self.old.script.faults self.new.script.faults }
         ensures when { IsErrOf result CommitFault.Failed ↔ Contains self.old.script.failing self.old.script.calls }
         ensures ok { OnOk result (self.new.items ≡ self.old.items ++ change.now) }
         ensures err { OnErr result (self.new.items ≡ self.old.items) }

@@ -84,10 +84,10 @@ pub fn check_store<K: Records, B: Blobs, O: Sink>(
     blobs: &mut B,
     out: &mut O,
 ) -> u8
-    ensures checks { Checks (records_told (K.tables records.old) (K.loading records.old) (K.faults records.old) (K.unsettled records.old)) (K.faults records.new)
+    ensures checks { Checks (records_told (K.shows records.old).tables (K.loading records.old) (K.shows records.old).faults (K.shows records.old).unsettled) (K.shows records.new).faults
         (B.shelf blobs.old) (B.faults blobs.old) (B.faults blobs.new)
         (output (O.taken out.old) (O.write_faults out.old)) (output (O.taken out.new) (O.write_faults out.new)) result }
-    ensures tables { K.tables records.new ≡ K.tables records.old }
+    ensures tables { (K.shows records.new).tables ≡ (K.shows records.old).tables }
     ensures kept { B.shelf blobs.new ≡ B.shelf blobs.old }
 {
     match audit(alloc, records, blobs) {

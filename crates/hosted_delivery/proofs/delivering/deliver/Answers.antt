@@ -4,19 +4,19 @@ use Rattle.std.specs.List.{flat_map}
 use Rattle.repo_model.specs.declared.item.Item.{Item}
 use Rattle.repo_model.specs.Effect.{recorded}
 use Rattle.hosted_delivery.specs.Deliveries.{left_by, session_with, shown_files, with_files, with_listed, without_puts}
-use Rattle.ordered_rows.specs.Recording.{FitWhereTold}
+use Rattle.row_tables.specs.Leaving.{MayTake}
 use Rattle.hosted_delivery.proofs.DeliveryLemmas.{apart-shown, delivered, effects_by, err-any, take-front}
 use Rattle.hosted_delivery.proofs.UndoneLemmas.{undone, without-all-free}
 use Rattle.hosted_delivery.proofs.delivering.deliver.Goals as goal
 
-pub add_and_commit-result-requires-clause-fits : goal.add_and_commit-result-requires-clause-fits
-add_and_commit-result-requires-clause-fits g c =
+pub add_and_commit-result-requires-clause-records : goal.add_and_commit-result-requires-clause-records
+add_and_commit-result-requires-clause-records g c =
     let files = shown_files c.args.staged.now.entries in
     let s = session_with c.args.repo.now files in
-    subst (FitWhereTold (g.K.Records.tables c.args.records.now))
+    subst (λ (items : List Item). MayTake items (g.K.Records.shows c.args.records.now))
     (sym (c.in_ok-change.ensures.items
     ∙ ap (λ items. items ++ c.args.also ∷ []) (c.in_ok-items.ensures.items ∙ ap (λ rs. recorded (effects_by s c.args.now rs files)) c.map-before.ensures)))
-    c.requires.fits
+    c.requires.records
 
 pub returns-in_err-finish-clause-err : goal.returns-in_err-finish-clause-err
 returns-in_err-finish-clause-err g c =

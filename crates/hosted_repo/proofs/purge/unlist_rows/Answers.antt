@@ -1,21 +1,19 @@
-use Rattle.std.proofs.Common.{◌≡◌, ℕ, List, [], ◌∷◌, length, map, Option, Some, None, Err, String, Global, string_bytes, true, vec_len, inl, refl, sym, ap, ◌∙◌, subst, arith, eqb-true}
+use Rattle.std.proofs.Common.{◌≡◌, ℕ, List, [], ◌∷◌, length, map, Err, String, Global, string_bytes, true, vec_len, inl, refl, sym, ap, ◌∙◌, subst, arith, eqb-true}
 use Rattle.std.specs.Prelude.{IsTrue}
 use Rattle.std.proofs.lemmas.Bool.{both_ways, eq-eqb}
 use Rattle.std.proofs.lemmas.List.{length-map, nil_from_length}
 use Rattle.repo_model.specs.Data as plain
 use Rattle.repo_model.specs.Effect.{Effect, fades, recorded}
 use Rattle.repo_model.specs.Purge.{due_rows}
-use Rattle.repo_model.specs.Tables.{Tables}
-use Rattle.row_tables.specs.Commits.{tables_with}
 use Rattle.row_tables.specs.Items.{IsChange, are_of}
-use Rattle.row_tables.specs.Crashes.{HasCommitCrash, IsCommitted}
+use Rattle.row_tables.specs.Leaving.{Leaves, MayTake, done, end_of}
+use Rattle.row_tables.proofs.Leavings.{told_same}
 use Rattle.repo_model.specs.declared.item.Item.{Item}
 use Rattle.row_tables.specs.declared.version.Version.TheVariants.{Second}
 use Rattle.hosted_repo.specs.Fades.{fade_at_paths}
 use Rattle.std.proofs.Common.{◌≤◌}
 use Rattle.std.specs.List.{All}
 use Rattle.repo_model.specs.History.{latest_moment}
-use Rattle.ordered_rows.specs.Recording.{FitWhereTold}
 use Rattle.ordered_rows.specs.Rows.{rows_after_all}
 use Rattle.directory_rows.specs.Rules.{shown_rule}
 use Rattle.repo_model.specs.Document.{document}
@@ -56,10 +54,6 @@ fading-whole : (repo : List ℕ) (now : ℕ) (paths : List (String Global)) → 
 fading-whole repo now [] = refl
 fading-whole repo now (path ∷ paths) = fading-whole repo now paths
 
-told_same : (t : Option Tables) → t ≡ tables_with [] t
-told_same None = refl
-told_same (Some x) = refl
-
 pub returns-then-is_empty-clause-count : goal.returns-then-is_empty-clause-count
 returns-then-is_empty-clause-count g c =
     let zero : length c.in_ok-paths.paths.items ≡ 0 = omega (arith, c.in_ok-paths.paths.ok.0, eqb-true (vec_len c.in_ok-paths.paths) 0 (sym c.is_empty.ensures ∙ c.if-is_empty.true)) in
@@ -72,15 +66,6 @@ returns-then-is_empty-clause-rows g c =
     ap (λ (due : List plain.Row). rows_after_all (faded_at c.args.rule.now.id c.args.now due) rows)
     (sym (no_rows c.in_ok-paths.paths.items (due_rows (shown_rule c.args.rule.now) c.args.now rows) c.in_ok-paths.ensures zero))
 
-pub returns-then-is_empty-clause-tables : goal.returns-then-is_empty-clause-tables
-returns-then-is_empty-clause-tables g c =
-    let zero : length c.in_ok-paths.paths.items ≡ 0 = omega (arith, c.in_ok-paths.paths.ok.0, eqb-true (vec_len c.in_ok-paths.paths) 0 (sym c.is_empty.ensures ∙ c.if-is_empty.true)) in
-    let rows = c.args.rows.now in
-    let told = g.K.Records.tables c.args.records.now in
-    told_same told
-    ∙ ap (λ (due : List plain.Row). tables_with (recorded (faded_at c.args.rule.now.id c.args.now due)) told)
-    (sym (no_rows c.in_ok-paths.paths.items (due_rows (shown_rule c.args.rule.now) c.args.now rows) c.in_ok-paths.ensures zero))
-
 pub fade_change-requires : goal.fade_change-requires
 fade_change-requires g c =
     let id = c.args.rule.now.id in
@@ -90,13 +75,6 @@ fade_change-requires g c =
 pub record_faded-requires-clause-whole : goal.record_faded-requires-clause-whole
 record_faded-requires-clause-whole g c =
     subst (λ items. IsTrue (are_of Second items)) (sym c.in_ok-change.ensures) (fading-whole c.args.rule.now.id c.args.now c.deref.result.now)
-
-pub record_faded-requires-clause-fits : goal.record_faded-requires-clause-fits
-record_faded-requires-clause-fits g c =
-    let id = c.args.rule.now.id in
-    let due = due_rows (shown_rule c.args.rule.now) c.args.now c.args.rows.now in
-    subst (FitWhereTold (g.K.Records.tables c.args.records.now))
-    (sym (c.in_ok-change.ensures ∙ ap recorded (ap (fade_at_paths id c.args.now) c.deref.ensures.value ∙ faded id c.args.now c.in_ok-paths.paths.items due c.in_ok-paths.ensures))) c.requires.fits
 
 pub returns-clause-asked : goal.returns-clause-asked
 returns-clause-asked g c failed none =
@@ -117,14 +95,6 @@ returns-in-Ok-clause-rows g c =
     let due = due_rows (shown_rule c.args.rule.now) c.args.now rows in
     c.fade_all.ensures id
     ∙ ap (λ (es : List Effect). rows_after_all es rows) (ap (fade_at_paths id c.args.now) c.deref-3.ensures.value ∙ faded id c.args.now c.in_ok-paths.paths.items due c.in_ok-paths.ensures)
-
-pub returns-in-Ok-clause-tables : goal.returns-in-Ok-clause-tables
-returns-in-Ok-clause-tables g c =
-    let id = c.args.rule.now.id in
-    let due = due_rows (shown_rule c.args.rule.now) c.args.now c.args.rows.now in
-    c.in-Ok.ensures.tables
-    ∙ ap (λ items. tables_with items (g.K.Records.tables c.args.records.now))
-    (c.in_ok-change.ensures ∙ ap recorded (ap (fade_at_paths id c.args.now) c.deref.ensures.value ∙ faded id c.args.now c.in_ok-paths.paths.items due c.in_ok-paths.ensures))
 
 -- the rows once they have faded
 pub record_faded-requires-clause-docs : goal.record_faded-requires-clause-docs
@@ -176,29 +146,35 @@ returns-clause-docs g c =
     ∙ faded_back id c.args.now paths rows rising (due_visible (shown_rule c.args.rule.now) c.args.now rows paths rising c.in_ok-paths.ensures) in
     subst (AreOf docs) (sym back) (same_of c.args.docs.now docs rows c.record_faded.ensures.same c.requires.docs)
 
-pub returns-then-is_empty-clause-crashes : goal.returns-then-is_empty-clause-crashes
-returns-then-is_empty-clause-crashes g c =
+pub record_faded-requires-clause-records : goal.record_faded-requires-clause-records
+record_faded-requires-clause-records g c =
+    let id = c.args.rule.now.id in
+    let due = due_rows (shown_rule c.args.rule.now) c.args.now c.args.rows.now in
+    subst (λ (items : List Item). MayTake items (g.K.Records.shows c.args.records.now))
+    (sym (c.in_ok-change.ensures ∙ ap recorded (ap (fade_at_paths id c.args.now) c.deref.ensures.value ∙ faded id c.args.now c.in_ok-paths.paths.items due c.in_ok-paths.ensures))) c.requires.records
+
+pub returns-then-is_empty-clause-records : goal.returns-then-is_empty-clause-records
+returns-then-is_empty-clause-records g c =
     let zero : length c.in_ok-paths.paths.items ≡ 0 = omega (arith, c.in_ok-paths.paths.ok.0, eqb-true (vec_len c.in_ok-paths.paths) 0 (sym c.is_empty.ensures ∙ c.if-is_empty.true)) in
-    inl (
-      ap (λ (due : List plain.Row). recorded (faded_at c.args.rule.now.id c.args.now due))
-          (no_rows c.in_ok-paths.paths.items (due_rows (shown_rule c.args.rule.now) c.args.now c.args.rows.now) c.in_ok-paths.ensures zero),
-      refl,
-    )
+    let now = g.K.Records.shows c.args.records.now in
+    subst (λ (due : List plain.Row). Leaves (recorded (faded_at c.args.rule.now.id c.args.now due)) done now now)
+    (sym (no_rows c.in_ok-paths.paths.items (due_rows (shown_rule c.args.rule.now) c.args.now c.args.rows.now) c.in_ok-paths.ensures zero))
+    (record { tables = told_same now.tables; cause = refl; crashes = inl (refl, refl); ready = c.requires.records.ready })
 
-pub returns-in-Ok-clause-crashes : goal.returns-in-Ok-clause-crashes
-returns-in-Ok-clause-crashes g c =
+pub returns-in-Ok-clause-records : goal.returns-in-Ok-clause-records
+returns-in-Ok-clause-records g c =
     let id = c.args.rule.now.id in
     let due = due_rows (shown_rule c.args.rule.now) c.args.now c.args.rows.now in
     subst
-    (λ (items : List Item). IsCommitted items (g.K.Records.tables c.args.records.now) (g.K.Records.unsettled c.args.records.now) (g.K.Records.unsettled c.record_faded.new.records))
+    (λ (items : List Item). Leaves items done (g.K.Records.shows c.args.records.now) (g.K.Records.shows c.record_faded.new.records))
     (c.in_ok-change.ensures ∙ ap recorded (ap (fade_at_paths id c.args.now) c.deref.ensures.value ∙ faded id c.args.now c.in_ok-paths.paths.items due c.in_ok-paths.ensures))
-    c.in-Ok.ensures.crashes
+    c.in-Ok.ensures.records
 
-pub returns-clause-crashes : goal.returns-clause-crashes
-returns-clause-crashes g c =
+pub returns-clause-records : goal.returns-clause-records
+returns-clause-records g c =
     let id = c.args.rule.now.id in
     let due = due_rows (shown_rule c.args.rule.now) c.args.now c.args.rows.now in
     subst
-    (λ (items : List Item). HasCommitCrash {T = Unit {0}} items (g.K.Records.tables c.args.records.now) (g.K.Records.unsettled c.args.records.now) (g.K.Records.unsettled c.record_faded.new.records) (Err c.in-Err.fault))
+    (λ (items : List Item). Leaves items (end_of {T = Unit {0}} (Err c.in-Err.fault)) (g.K.Records.shows c.args.records.now) (g.K.Records.shows c.record_faded.new.records))
     (c.in_ok-change.ensures ∙ ap recorded (ap (fade_at_paths id c.args.now) c.deref.ensures.value ∙ faded id c.args.now c.in_ok-paths.paths.items due c.in_ok-paths.ensures))
-    c.in-Err.ensures.crashes
+    c.in-Err.ensures.records

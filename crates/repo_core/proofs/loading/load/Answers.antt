@@ -9,7 +9,7 @@ use Rattle.repo_core.proofs.loading.load.Goals as goal
 pub returns-in_err-tables-clause-front : goal.returns-in_err-tables-clause-front
 returns-in_err-tables-clause-front g c =
     on_err c.from_residual.result
-    (told-same (g.B.Blobs.shelf c.args.blobs.now) (g.K.Records.tables c.args.records.now) (g.K.Records.tables c.load.new.self) c.load.ensures.same)
+    (told-same (g.B.Blobs.shelf c.args.blobs.now) (g.K.Records.shows c.args.records.now).tables (g.K.Records.shows c.load.new.self).tables c.load.ensures.same)
 
 pub complete-requires-clause-told : goal.complete-requires-clause-told
 complete-requires-clause-told g c =
@@ -18,7 +18,7 @@ complete-requires-clause-told g c =
 pub returns-in_err-complete-clause-front : goal.returns-in_err-complete-clause-front
 returns-in_err-complete-clause-front g c =
     on_err c.from_residual-in_err-complete.result
-    (subst (λ ts. IsDigestedWhereTold (g.B.Blobs.shelf c.args.blobs.now) ts (g.K.Records.tables c.complete.new.records)) c.load.ensures.same c.in_err-complete.ensures.front)
+    (subst (λ ts. IsDigestedWhereTold (g.B.Blobs.shelf c.args.blobs.now) ts (g.K.Records.shows c.complete.new.records).tables) c.load.ensures.same c.in_err-complete.ensures.front)
 
 pub returns-clause-tables : goal.returns-clause-tables
 returns-clause-tables g c =

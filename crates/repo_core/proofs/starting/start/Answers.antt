@@ -48,19 +48,19 @@ over-requires-clause-kept g c =
     let clock = g.C.Clock.moments c.args.clock in
     let old = g.B.Blobs.shelf c.args.blobs.now in
     let new = g.B.Blobs.shelf c.stock_of.new.blobs in
-    let told = told-then (g.K.Records.tables c.args.records) (g.K.Records.tables c.load.new.records) c.in-Ok.tables c.in-Ok.ensures.told in
+    let told = told-then (g.K.Records.shows c.args.records).tables (g.K.Records.shows c.load.new.records).tables c.in-Ok.tables c.in-Ok.ensures.told in
     starts-kept c.args.settings c.in-Ok.tables old new clock (state_of c.in-Ok-stock_of.stock clock) c.in-Ok.ensures.built c.form.ensures (subst (λ (sh : Shelf). Starts c.args.settings c.in-Ok.tables sh new clock 0 (state_of c.in-Ok-stock_of.stock clock)) c.load.ensures.kept (c.in-Ok-stock_of.ensures.starts clock)) c.of.result
-    (g.K.Records.faults c.load.new.records) (g.K.Records.unsettled c.load.new.records) (g.K.Records.tables c.load.new.records) c.of.ensures.settings c.of.ensures.state told
+    (g.K.Records.shows c.load.new.records) c.of.ensures.settings c.of.ensures.state told
 
 pub returns-in-Ok-stock_of-clause-state : goal.returns-in-Ok-stock_of-clause-state
 returns-in-Ok-stock_of-clause-state g c =
     let clock = g.C.Clock.moments c.args.clock in
     let old = g.B.Blobs.shelf c.args.blobs.now in
     let new = g.B.Blobs.shelf c.stock_of.new.blobs in
-    let before = g.K.Records.faults c.args.records in
+    let before = (g.K.Records.shows c.args.records).faults in
     let s : State = state_of c.in-Ok-stock_of.stock clock in
     let state : c.over.result.state ≡ counting before s =
-    ap (λ (w : Whole). w.state) c.over.ensures ∙ ap (counting (g.K.Records.faults c.load.new.records)) c.of.ensures.state ∙ ap (λ n. counting n s) c.in-Ok.ensures.same in (
+    ap (λ (w : Whole). w.state) c.over.ensures ∙ ap (counting (g.K.Records.shows c.load.new.records).faults) c.of.ensures.state ∙ ap (λ n. counting n s) c.in-Ok.ensures.same in (
       c.in-Ok.tables,
       c.in-Ok.ensures.tables,
       ap (λ (w : Whole). w.tables) c.over.ensures ∙ c.in-Ok.ensures.told,
@@ -73,10 +73,10 @@ returns-in-Ok-stock_of-clause-stands g c =
     let clock = g.C.Clock.moments c.args.clock in
     let old = g.B.Blobs.shelf c.args.blobs.now in
     let new = g.B.Blobs.shelf c.stock_of.new.blobs in
-    let faults = g.K.Records.faults c.load.new.records in
-    let tables = g.K.Records.tables c.load.new.records in
+    let faults = (g.K.Records.shows c.load.new.records).faults in
+    let tables = (g.K.Records.shows c.load.new.records).tables in
     let s : State = state_of c.in-Ok-stock_of.stock clock in
-    let told = told-then (g.K.Records.tables c.args.records) (g.K.Records.tables c.load.new.records) c.in-Ok.tables c.in-Ok.ensures.told in
+    let told = told-then (g.K.Records.shows c.args.records).tables (g.K.Records.shows c.load.new.records).tables c.in-Ok.tables c.in-Ok.ensures.told in
     let stand : ForSome tables (λ t. StandsFor t (counting faults s)) =
     starts-told c.args.settings c.in-Ok.tables old new clock s c.in-Ok.ensures.built c.form.ensures (subst (λ (sh : Shelf). Starts c.args.settings c.in-Ok.tables sh new clock 0 (state_of c.in-Ok-stock_of.stock clock)) c.load.ensures.kept (c.in-Ok-stock_of.ensures.starts clock)) faults tables told in
     subst (λ (w : Whole). ForSome w.tables (λ t. StandsFor t w.state)) (sym c.over.ensures)
@@ -87,11 +87,11 @@ returns-in-Ok-stock_of-clause-opening g c =
     let clock = g.C.Clock.moments c.args.clock in
     let old = g.B.Blobs.shelf c.args.blobs.now in
     let new = g.B.Blobs.shelf c.stock_of.new.blobs in
-    let before = g.K.Records.faults c.args.records in
-    let told = g.K.Records.tables c.args.records in
+    let before = (g.K.Records.shows c.args.records).faults in
+    let told = (g.K.Records.shows c.args.records).tables in
     let s : State = state_of c.in-Ok-stock_of.stock clock in
     let state : c.over.result.state ≡ counting before s =
-    ap (λ (w : Whole). w.state) c.over.ensures ∙ ap (counting (g.K.Records.faults c.load.new.records)) c.of.ensures.state ∙ ap (λ n. counting n s) c.in-Ok.ensures.same in
+    ap (λ (w : Whole). w.state) c.over.ensures ∙ ap (counting (g.K.Records.shows c.load.new.records).faults) c.of.ensures.state ∙ ap (λ n. counting n s) c.in-Ok.ensures.same in
     let starts = starts-counted c.args.settings c.in-Ok.tables old new clock s c.in-Ok.ensures.built c.form.ensures (subst (λ (sh : Shelf). Starts c.args.settings c.in-Ok.tables sh new clock 0 (state_of c.in-Ok-stock_of.stock clock)) c.load.ensures.kept (c.in-Ok-stock_of.ensures.starts clock)) before in
     subst (λ (u : State). IfSome told (λ t. t ≡ no_tables → IfSome old.blobs (λ them. them ≡ [] → u ≡ counting before (opening c.args.settings clock)))) (sym state)
     (starts-opening c.args.settings c.in-Ok.tables old new clock before (counting before s) starts told
@@ -99,12 +99,12 @@ returns-in-Ok-stock_of-clause-opening g c =
 
 pub returns-in-Ok-stock_of-clause-tables : goal.returns-in-Ok-stock_of-clause-tables
 returns-in-Ok-stock_of-clause-tables g c =
-    digested-so (g.K.Records.tables c.args.records) (g.K.Records.loading c.args.records) (g.B.Blobs.shelf c.args.blobs.now) c.in-Ok.tables c.in-Ok.ensures.tables _
+    digested-so (g.K.Records.shows c.args.records).tables (g.K.Records.loading c.args.records) (g.B.Blobs.shelf c.args.blobs.now) c.in-Ok.tables c.in-Ok.ensures.tables _
     (ap (λ (w : Whole). w.tables) c.over.ensures ∙ c.in-Ok.ensures.told)
 
 pub returns-in-Ok-stock_of-clause-complete : goal.returns-in-Ok-stock_of-clause-complete
 returns-in-Ok-stock_of-clause-complete g c =
-    complete-then (g.K.Records.tables c.args.records) _ c.in-Ok.tables (ap (λ (w : Whole). w.tables) c.over.ensures ∙ c.in-Ok.ensures.told) c.in-Ok.ensures.tables.3
+    complete-then (g.K.Records.shows c.args.records).tables _ c.in-Ok.tables (ap (λ (w : Whole). w.tables) c.over.ensures ∙ c.in-Ok.ensures.told) c.in-Ok.ensures.tables.3
 
 pub returns-in-Err-clause-damaged : goal.returns-in-Err-clause-damaged
 returns-in-Err-clause-damaged g c =

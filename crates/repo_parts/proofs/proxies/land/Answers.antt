@@ -6,12 +6,11 @@ use Rattle.repo_model.specs.Effect.{recorded}
 use Rattle.repo_model.specs.Shown.{outcome_map, shown_got}
 use Rattle.repo_model.specs.State.{is_proxy}
 use Rattle.repo_model.specs.Turn.{lands_by}
-use Rattle.ordered_rows.specs.Recording.{FitWhereTold}
-use Rattle.proxy_rules.specs.Landings.{has_failed, proxy_after_all, shown_landed}
+use Rattle.row_tables.specs.Leaving.{MayTake}
+use Rattle.proxy_rules.specs.Landings.{has_failed, proxy_after_all}
 use Rattle.repo_restart.proofs.PlaceLemmas.{changed-at, files-at}
 use Rattle.repo_parts.specs.Proxies.{LandsIn, proxies_after_all}
 use Rattle.repo_parts.proofs.PlacedLemmas.{landing-here, named-so, none-there, set-itself}
-use Rattle.row_tables.specs.Crashes.{HasReplyCrash}
 use Rattle.repo_parts.proofs.proxies.land.Goals as goal
 
 pub land-requires-clause-proxy : goal.land-requires-clause-proxy
@@ -21,17 +20,18 @@ land-requires-clause-proxy g c =
     let there : position (is_proxy c.args.plan.now.proxy) items ≡ Some c.in-Some.place = rw (c.as_str.ensures, c.deref.ensures.value) at (sym c.in-Some.ensures) in
     sym ((bytes_eq-Decides p.rule.id c.args.plan.now.proxy).0 (named-so c.args.plan.now.proxy items c.in-Some.place p there c.index_mut.ensures.value))
 
-pub land-requires-clause-fits : goal.land-requires-clause-fits
-land-requires-clause-fits g c =
+pub land-requires-clause-records : goal.land-requires-clause-records
+land-requires-clause-records g c =
     let items = c.args.proxies.now.items in
     let plan = c.args.plan.now in
     let p = c.index_mut.result.now in
     let there : position (is_proxy plan.proxy) items ≡ Some c.in-Some.place = rw (c.as_str.ensures, c.deref.ensures.value) at (sym c.in-Some.ensures) in
     let files = files-at plan.proxy items c.in-Some.place p there c.index_mut.ensures.value in
-    subst (λ (rows : List Row). FitWhereTold (g.K.Records.tables c.args.records.now) (recorded (lands_by rows c.args.moment plan (outcome_map shown_got c.args.outcome)))) files c.requires.fits
+    let records = c.args.records.now in
+    subst (λ (rows : List Row). MayTake (recorded (lands_by rows c.args.moment plan (outcome_map shown_got c.args.outcome))) (g.K.Records.shows records)) files c.requires.records
 
-pub returns-clause-lands : goal.returns-clause-lands
-returns-clause-lands g c =
+pub returns : goal.returns
+returns g c =
     let items = c.args.proxies.now.items in
     let plan = c.args.plan.now in
     let landing = outcome_map shown_got c.args.outcome in
@@ -49,24 +49,11 @@ returns-clause-lands g c =
       | false ↦ ap (λ (q : Proxy). set items i (proxy_after_all effects q)) c.index_mut.ensures.value ∙ changed-at (is_proxy plan.proxy) (proxy_after_all effects) items i p there
           ∙ sym (landing-here p.files c.args.moment plan landing items)
     ]) in
-    subst (λ (rows : List Row). LandsIn (lands_by rows c.args.moment plan landing) items (set items i c.land.new.self) (g.K.Records.tables c.args.records.now) (g.K.Records.tables c.land.new.records)
-    (g.K.Records.faults c.args.records.now) (g.K.Records.faults c.land.new.records) answer) (sym files)
-    (record { answered = did.answered; asked = did.asked; proxies = made; tables = did.tables; cause = did.cause })
+    subst (λ (rows : List Row). LandsIn (lands_by rows c.args.moment plan landing) items (set items i c.land.new.self) (g.K.Records.shows c.args.records.now) (g.K.Records.shows c.land.new.records) answer) (sym files)
+    (record { answered = did.answered; asked = did.asked; proxies = made; records = did.records })
 
 pub unreachable-requires : goal.unreachable-requires
 unreachable-requires g c =
     let items = c.args.proxies.now.items in
     let none : position (is_proxy c.args.plan.now.proxy) items ≡ None = rw (c.as_str.ensures, c.deref.ensures.value) at (sym c.in-None.ensures) in
     none-there (is_proxy c.args.plan.now.proxy) items c.requires.there none
-
-pub returns-clause-crashes : goal.returns-clause-crashes
-returns-clause-crashes g c =
-    let items = c.args.proxies.now.items in
-    let plan = c.args.plan.now in
-    let landing = outcome_map shown_got c.args.outcome in
-    let p = c.index_mut.result.now in
-    let there : position (is_proxy plan.proxy) items ≡ Some c.in-Some.place = rw (c.as_str.ensures, c.deref.ensures.value) at (sym c.in-Some.ensures) in
-    let files = files-at plan.proxy items c.in-Some.place p there c.index_mut.ensures.value in
-    subst
-    (λ (rows : List Row). HasReplyCrash (recorded (lands_by rows c.args.moment plan landing)) (g.K.Records.tables c.args.records.now) (g.K.Records.unsettled c.args.records.now) (g.K.Records.unsettled c.land.new.records) (shown_landed c.land.result))
-    (sym files) c.land.ensures.crashes

@@ -19,11 +19,11 @@ pub returns-then-is_complete-clause-complete : goal.returns-then-is_complete-cla
 returns-then-is_complete-clause-complete g c = c.is_complete.ensures.0 c.if-is_complete.true
 
 pub returns-then-is_complete-clause-recorded : goal.returns-then-is_complete-clause-recorded
-returns-then-is_complete-clause-recorded g c = told-first (g.K.Records.tables c.args.records.now) c.args.tables.now c.requires.told
+returns-then-is_complete-clause-recorded g c = told-first (g.K.Records.shows c.args.records.now).tables c.args.tables.now c.requires.told
 
 pub returns-in_err-items-clause-front : goal.returns-in_err-items-clause-front
 returns-in_err-items-clause-front g c =
-    on_err c.from_residual.result (told-same (g.B.Blobs.shelf c.args.blobs.now) (g.K.Records.tables c.args.records.now) (g.K.Records.tables c.args.records.now) refl)
+    on_err c.from_residual.result (told-same (g.B.Blobs.shelf c.args.blobs.now) (g.K.Records.shows c.args.records.now).tables (g.K.Records.shows c.args.records.now).tables refl)
 
 pub returns-in_err-items-clause-damaged : goal.returns-in_err-items-clause-damaged
 returns-in_err-items-clause-damaged g c =
@@ -58,7 +58,7 @@ returns-in-Ok-clause-still g c complete = absurd (both_ways c.is_complete.result
 pub returns-in-Err-Failed-clause-front : goal.returns-in-Err-Failed-clause-front
 returns-in-Err-Failed-clause-front g c =
     let shelf = g.B.Blobs.shelf c.args.blobs.now in
-    let told = g.K.Records.tables c.args.records.now in
+    let told = (g.K.Records.shows c.args.records.now).tables in
     let t = c.args.tables.now in
     let items = c.in_ok-items.items.items in
     let left = c.in-Err-Failed.ensures.front in
@@ -70,7 +70,7 @@ returns-in-Err-Failed-clause-still g c complete = absurd (both_ways c.is_complet
 pub returns-in-Err-NoMemory-clause-front : goal.returns-in-Err-NoMemory-clause-front
 returns-in-Err-NoMemory-clause-front g c =
     let shelf = g.B.Blobs.shelf c.args.blobs.now in
-    let told = g.K.Records.tables c.args.records.now in
+    let told = (g.K.Records.shows c.args.records.now).tables in
     let t = c.args.tables.now in
     let items = c.in_ok-items.items.items in
     let left = c.in-Err-NoMemory.ensures.front in

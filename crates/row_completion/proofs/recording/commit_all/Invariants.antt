@@ -12,12 +12,12 @@ use Rattle.row_completion.proofs.recording.commit_all.Given as goal
 abbrev pub invariant-loop-alloc : goal.invariant-loop-alloc
 invariant-loop-alloc g l = record {
   left : Left l.fn.tables l.tables l.fn.items.items (reverse l.rest.items);
-  told : g.K.Records.tables l.records ≡ option_map (λ u. l.tables) (g.K.Records.tables l.fn.records);
+  told : (g.K.Records.shows l.records).tables ≡ option_map (λ u. l.tables) (g.K.Records.shows l.fn.records).tables;
   short : AllByRecursion IsShort (reverse l.rest.items);
   fit : applied l.tables (reverse l.rest.items) ≡ Ok (with_items l.tables (reverse l.rest.items));
-  count : g.K.Records.faults l.records ≡ g.K.Records.faults l.fn.records;
-  settled : (g.K.Records.unsettled l.fn.records).pending ≡ None → (g.K.Records.unsettled l.records).pending ≡ None;
-  ready : g.K.Records.ready l.records;
+  count : (g.K.Records.shows l.records).faults ≡ (g.K.Records.shows l.fn.records).faults;
+  settled : (g.K.Records.shows l.fn.records).unsettled.pending ≡ None → (g.K.Records.shows l.records).unsettled.pending ≡ None;
+  ready : (g.K.Records.shows l.records).IsReady;
 }
 
 abbrev pub decreases-loop-alloc : goal.decreases-loop-alloc

@@ -2,12 +2,13 @@ use Rattle.std.proofs.Common.{◌≡◌, ◌≤◌, ℕ, List, length, min, take
 use Rattle.std.specs.Prelude.{IsTrue, reverse}
 use Rattle.row_tables.specs.Applying.{Applies, with_items}
 use Rattle.row_tables.specs.Items.{IsChange, are_of}
+use Rattle.row_tables.specs.Leaving.{Leaves, done}
 use Rattle.row_tables.specs.declared.faults.ApplyFault.{ApplyFault}
 use Rattle.row_tables.specs.declared.faults.ApplyFault.TheVariants.{Misfit}
 use Rattle.row_tables.specs.declared.version.Version.TheVariants.{Second}
 use Rattle.repo_model.specs.declared.item.Item.{Item}
 use Rattle.repo_model.specs.Tables.{applied}
-use Rattle.row_completion.proofs.Chunks.{first-change, first-fit, first-whole, told-fit, told-next}
+use Rattle.row_completion.proofs.Chunks.{first-change, first-fit, first-whole, told-fit}
 use Rattle.row_completion.proofs.recording.commit_first.Goals as goal
 
 -- the first of some items that stand the other way round
@@ -38,12 +39,15 @@ commit-requires-clause-whole g c =
     subst (λ them. IsTrue (are_of Second them)) (sym (c.of-change.ensures ∙ c.in_ok-first.ensures.first))
     (first-whole (most c.args.items.items) (reverse c.args.items.items) c.requires.short)
 
-pub commit-requires-clause-fits : goal.commit-requires-clause-fits
-commit-requires-clause-fits g c =
+pub commit-requires-clause-records : goal.commit-requires-clause-records
+commit-requires-clause-records g c =
     let t = c.args.tables.now in
     let is = c.of-change.ensures ∙ c.in_ok-first.ensures.first in
-    told-fit (g.K.Records.tables c.args.records.now) t c.of-change.result c.requires.told
-    (ap (applied t) is ∙ first-fit (most c.args.items.items) (reverse c.args.items.items) t c.requires.fit ∙ ap (λ them. Ok (with_items t them)) (sym is))
+    record {
+      ready = c.requires.ready;
+      fits = told-fit (g.K.Records.shows c.args.records.now).tables t c.of-change.result c.requires.told
+          (ap (applied t) is ∙ first-fit (most c.args.items.items) (reverse c.args.items.items) t c.requires.fit ∙ ap (λ them. Ok (with_items t them)) (sym is));
+    }
 
 pub returns-clause-tables : goal.returns-clause-tables
 returns-clause-tables g c =
@@ -52,11 +56,7 @@ returns-clause-tables g c =
     let fit = ap (applied t) (c.of-change.ensures ∙ c.in_ok-first.ensures.first) ∙ first-fit (most c.args.items.items) (reverse c.args.items.items) t c.requires.fit in
     (let e : Ok c.apply.new.self ≡ Ok (with_items t first) = sym c.in-Ok.ensures ∙ fit in cc)
 
-pub returns-clause-recorded : goal.returns-clause-recorded
-returns-clause-recorded g c =
-    let t = c.args.tables.now in
+pub returns-clause-records : goal.returns-clause-records
+returns-clause-records g c =
     let is = c.of-change.ensures ∙ c.in_ok-first.ensures.first in
-    let fit = ap (applied t) is ∙ first-fit (most c.args.items.items) (reverse c.args.items.items) t c.requires.fit ∙ ap (λ them. Ok (with_items t them)) (sym is) in
-    let made : c.apply.new.self ≡ with_items t c.of-change.result =
-    (let e : Ok c.apply.new.self ≡ Ok (with_items t c.of-change.result) = sym c.in-Ok.ensures ∙ fit in cc) in
-    c.in_ok-commit.ensures.ok ∙ told-next (g.K.Records.tables c.args.records.now) t c.apply.new.self c.of-change.result c.requires.told made
+    subst (λ (them : List Item). Leaves them done (g.K.Records.shows c.args.records.now) (g.K.Records.shows c.commit.new.self)) is c.in_ok-commit.ensures.records

@@ -1,4 +1,4 @@
-use Rattle.std.proofs.Common.{◌≡◌, ℕ, ◌-◌, List, Option, Err, sym, ap, ◌∙◌, refl, subst, arith}
+use Rattle.std.proofs.Common.{◌≡◌, ℕ, ◌-◌, List, Err, sym, ap, ◌∙◌, refl, subst, arith}
 use Rattle.std.specs.Prelude.{is_some}
 use Rattle.std.specs.List.{flat_map}
 use Rattle.repo_model.specs.declared.item.Item.{Item}
@@ -7,12 +7,9 @@ use Rattle.repo_model.specs.Data as plain
 use Rattle.repo_model.specs.Effect.{Effect, recorded}
 use Rattle.repo_model.specs.Turn.{Turn}
 use Rattle.deploy_session.specs.Known.{Known, IsSound, abort_turn, garbage_by, known_after}
-use Rattle.row_tables.specs.Commits.{tables_with}
-use Rattle.repo_model.specs.Tables.{Tables}
-use Rattle.row_tables.specs.Crashes.{HasCommitCrash, HasReplyCrash, IsCommitted, Unsettled}
-use Rattle.deploy_session.specs.Recording.{FitWhereTold}
-use Rattle.deploy_session.specs.Shown.{shown_files, shown_session, shown_sessions}
-use Rattle.deploy_session.proofs.CrashLaws.{failed-crash}
+use Rattle.row_tables.specs.Leaving.{Leaves, MayTake, done, end_of}
+use Rattle.deploy_session.specs.Shown.{shown_abort, shown_files, shown_session, shown_sessions}
+use Rattle.deploy_session.proofs.CrashLaws.{failed-leaves}
 use Rattle.deploy_session.proofs.SessionLaws.{abort_so, aborted, garbage_aborted, gone, next_aborted, number_range, open_of_session, recorded_aborted, sound_fewer}
 use Rattle.deploy_session.proofs.sessions.Sessions.abort.Goals as goal
 
@@ -32,17 +29,17 @@ pub give_up-requires-clause-there : goal.give_up-requires-clause-there
 give_up-requires-clause-there g c =
     ap is_some (open_of_session c.args.session (shown_sessions c.self.inside.known.entries) (shown_session (c.args.session, c.in-Some.found.now)) (sym c.in-Some.ensures) c.in_default-ended.is)
 
-pub give_up-requires-clause-fits : goal.give_up-requires-clause-fits
-give_up-requires-clause-fits g c =
+pub give_up-requires-clause-records : goal.give_up-requires-clause-records
+give_up-requires-clause-records g c =
     let n = c.args.session in
     let y = c.self.inside in
     let files = shown_files c.in-Some.found.now.files.entries in
     let k : Known = record { sessions = shown_sessions y.known.entries; next = y.next } in
-    let told = g.K.Records.tables c.args.records.now in
+    let records = c.args.records.now in
     let so : abort_turn c.args.self.now n ≡ gone n files =
     ap (λ (h : Known). abort_turn h n) (sym c.self.view_is) ∙ abort_so k n (shown_session (n, c.in-Some.found.now)) (sym c.in-Some.ensures) c.in_default-ended.is refl in
-    subst (FitWhereTold told) (recorded_aborted n Aborted files)
-    (subst (λ (t : Turn). FitWhereTold told (recorded t.effects)) so c.requires.fits)
+    subst (λ (items : List Item). MayTake items (g.K.Records.shows records)) (recorded_aborted n Aborted files)
+    (subst (λ (t : Turn). MayTake (recorded t.effects) (g.K.Records.shows records)) so c.requires.records)
 
 pub overflow_sub-self : goal.overflow_sub-self
 overflow_sub-self g c =
@@ -86,42 +83,26 @@ returns-clause-blobs g c =
     ap (λ (h : Known). abort_turn h n) (sym c.self.view_is) ∙ abort_so k n (shown_session (n, c.in-Some.found.now)) (sym c.in-Some.ensures) c.in_default-ended.is refl in
     c.from_vec.ensures ∙ c.in-Ok.ensures ∙ sym (garbage_aborted n Aborted files) ∙ sym (ap (λ (t : Turn). flat_map garbage_by t.effects) so)
 
-pub returns-clause-tables : goal.returns-clause-tables
-returns-clause-tables g c =
-    let n = c.args.session in
-    let y = c.self.inside in
-    let files = shown_files c.in-Some.found.now.files.entries in
-    let k : Known = record { sessions = shown_sessions y.known.entries; next = y.next } in
-    let told = g.K.Records.tables c.args.records.now in
-    let so : abort_turn c.args.self.now n ≡ gone n files =
-    ap (λ (h : Known). abort_turn h n) (sym c.self.view_is) ∙ abort_so k n (shown_session (n, c.in-Some.found.now)) (sym c.in-Some.ensures) c.in_default-ended.is refl in
-    c.in_default-give_up.ensures.recorded
-    ∙ sym (ap (λ (items : List Item). tables_with items told) (recorded_aborted n Aborted files))
-    ∙ sym (ap (λ (t : Turn). tables_with (recorded t.effects) told) so)
-
-pub returns-clause-crashes : goal.returns-clause-crashes
-returns-clause-crashes g c =
+pub returns-clause-records : goal.returns-clause-records
+returns-clause-records g c =
     let n = c.args.session in
     let y = c.self.inside in
     let files = shown_files c.in-Some.found.now.files.entries in
     let k : Known = record { sessions = shown_sessions y.known.entries; next = y.next } in
     let so : abort_turn c.args.self.now n ≡ gone n files =
     ap (λ (h : Known). abort_turn h n) (sym c.self.view_is) ∙ abort_so k n (shown_session (n, c.in-Some.found.now)) (sym c.in-Some.ensures) c.in_default-ended.is refl in
-    subst (λ (items : List Item). IsCommitted items (g.K.Records.tables c.args.records.now) (g.K.Records.unsettled c.args.records.now) (g.K.Records.unsettled c.give_up.new.records))
-    (sym (ap (λ (t : Turn). recorded t.effects) so ∙ recorded_aborted n Aborted files)) c.in_default-give_up.ensures.crashes
+    subst (λ (items : List Item). Leaves items done (g.K.Records.shows c.args.records.now) (g.K.Records.shows c.give_up.new.records))
+    (sym (ap (λ (t : Turn). recorded t.effects) so ∙ recorded_aborted n Aborted files)) c.in_default-give_up.ensures.records
 
-pub returns-in-Err-clause-crashes : goal.returns-in-Err-clause-crashes
-returns-in-Err-clause-crashes g c =
+pub returns-in-Err-clause-records : goal.returns-in-Err-clause-records
+returns-in-Err-clause-records g c =
     let n = c.args.session in
     let y = c.self.inside in
     let files = shown_files c.in-Some.found.now.files.entries in
     let k : Known = record { sessions = shown_sessions y.known.entries; next = y.next } in
-    let told : Option Tables = g.K.Records.tables c.args.records.now in
-    let before : Unsettled = g.K.Records.unsettled c.args.records.now in
-    let behind : Unsettled = g.K.Records.unsettled c.give_up.new.records in
     let due : List Item = recorded (abort_turn c.args.self.now n).effects in
     let so : abort_turn c.args.self.now n ≡ gone n files =
     ap (λ (h : Known). abort_turn h n) (sym c.self.view_is) ∙ abort_so k n (shown_session (n, c.in-Some.found.now)) (sym c.in-Some.ensures) c.in_default-ended.is refl in
-    subst (HasReplyCrash due told before behind) (sym c.failed.ensures.reply)
-    (failed-crash told before behind due c.in-Err.fault
-    (subst (λ (items : List Item). HasCommitCrash {T = Unit {0}} items told before behind (Err c.in-Err.fault)) (sym (ap (λ (t : Turn). recorded t.effects) so ∙ recorded_aborted n Aborted files)) c.in-Err.ensures.crashes))
+    failed-leaves (g.K.Records.shows c.args.records.now) (g.K.Records.shows c.give_up.new.records) due c.in-Err.fault (shown_abort c.failed.result) c.failed.ensures.reply
+    (subst (λ (items : List Item). Leaves items (end_of {T = Unit {0}} (Err c.in-Err.fault)) (g.K.Records.shows c.args.records.now) (g.K.Records.shows c.give_up.new.records))
+    (sym (ap (λ (t : Turn). recorded t.effects) so ∙ recorded_aborted n Aborted files)) c.in-Err.ensures.records)

@@ -6,13 +6,13 @@ use Rattle.repo_model.specs.Reply as reply
 use Rattle.repo_model.specs.State.{is_open, most_sessions, number_end}
 use Rattle.repo_model.specs.Turn.{Turn}
 use Rattle.deploy_session.specs.Known.{Known, IsSound, begin_turn}
-use Rattle.deploy_session.specs.Recording.{FitWhereTold}
+use Rattle.row_tables.specs.Leaving.{MayTake}
 use Rattle.deploy_session.specs.Shown.{shown_sessions}
 use Rattle.deploy_session.proofs.SessionLaws.{opens_so, sound_more}
 use Rattle.deploy_session.proofs.sessions.Sessions.begin.Goals as goal
 
-pub begin-requires-clause-fits : goal.begin-requires-clause-fits
-begin-requires-clause-fits g c =
+pub begin-requires-clause-records : goal.begin-requires-clause-records
+begin-requires-clause-records g c =
     let y = c.self.inside in
     let repo = c.args.repo.now in
     let k : Known = record { sessions = shown_sessions y.known.entries; next = y.next } in
@@ -20,7 +20,8 @@ begin-requires-clause-fits g c =
     let left : eqb y.next number_end ≡ false = ne_eqb y.next number_end (λ e. absurd (omega (arith, e))) in
     let opened : Turn = record { reply = reply.opened y.next; effects = opens y.next repo ∷ [] } in
     let so : begin_turn c.args.self.now repo ≡ opened = ap (λ (h : Known). begin_turn h repo) (sym c.self.view_is) ∙ opens_so k repo few left in
-    subst (λ (t : Turn). FitWhereTold (g.K.Records.tables c.args.records.now) (recorded t.effects)) so c.requires.fits
+    let records = c.args.records.now in
+    subst (λ (t : Turn). MayTake (recorded t.effects) (g.K.Records.shows records)) so c.requires.records
 
 pub invariant_of-self-2 : goal.invariant_of-self-2
 invariant_of-self-2 g c =

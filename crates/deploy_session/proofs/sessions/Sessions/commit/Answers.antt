@@ -1,4 +1,4 @@
-use Rattle.std.proofs.Common.{◌≡◌, ℕ, ◌≤◌, ◌-◌, false, cond, List, [], ◌∷◌, ◌++◌, length, Option, Some, inl, inr, rules, sym, ap, ◌∙◌, refl, subst, arith}
+use Rattle.std.proofs.Common.{◌≡◌, ℕ, ◌≤◌, ◌-◌, false, cond, List, [], ◌∷◌, ◌++◌, length, Some, inl, inr, rules, sym, ap, ◌∙◌, refl, subst, arith}
 use Rattle.std.specs.Prelude.{find, is_some}
 use Rattle.std.specs.List.{flat_map}
 use Rattle.std.proofs.lemmas.Bool.{both_ways}
@@ -9,19 +9,16 @@ use Rattle.repo_model.specs.declared.session.SessionResult.TheVariants.{Done}
 use Rattle.repo_model.specs.Data as plain
 use Rattle.repo_model.specs.Deploy.{deliver_all, offence, without_pom}
 use Rattle.repo_model.specs.Effect.{Effect, ends, recorded}
-use Rattle.repo_model.specs.Reply.{is_free}
+use Rattle.repo_model.specs.Reply.{Reply, is_free}
 use Rattle.repo_model.specs.State.{change_first, is_open_at, most_staged}
 use Rattle.repo_model.specs.Turn.{Turn, commit_by}
-use Rattle.row_tables.specs.Commits.{tables_with}
-use Rattle.row_tables.specs.Crashes.{HasReplyCrash, IsCommitted}
-use Rattle.repo_model.specs.Tables.{Tables}
+use Rattle.row_tables.specs.Leaving.{FitWhereTold, Leaves, done, end_by}
 use Rattle.hosted_delivery.specs.Deliveries.{deliveries, is_done, session_with}
 use Rattle.ordered_rows.specs.Rows.{rows_after_all}
 use Rattle.deploy_session.specs.Known.{Known, IsSound, commit_turn, garbage_by, known_after}
-use Rattle.deploy_session.specs.Recording.{FitWhereTold, HasReplyCause}
 use Rattle.deploy_session.specs.Shown.{shown_commit, shown_file, shown_session, shown_sessions}
-use Rattle.deploy_session.proofs.CommitLaws.{blobs-ended, done-clear, done-effects, due-reply, end-formed, fault-of, items-ended, next-ended, not-empty, quiet, recordable-there, refused-quiet, reply-alike, rows-ended, sessions-ended, told_same, turn-of}
-use Rattle.deploy_session.proofs.CrashLaws.{refused-crash}
+use Rattle.deploy_session.proofs.CommitLaws.{blobs-ended, done-clear, done-effects, due-reply, end-formed, fault-of, items-ended, next-ended, not-empty, quiet, recordable-there, refused-quiet, reply-alike, rows-ended, sessions-ended, turn-of}
+use Rattle.deploy_session.proofs.CrashLaws.{refused-leaves}
 use Rattle.deploy_session.proofs.SessionLaws.{number_range, open_of_session, sound_fewer}
 use Rattle.deploy_session.proofs.sessions.Sessions.commit.Goals as goal
 
@@ -54,10 +51,10 @@ put_all-requires-clause-fits g c none bare =
     let there = open_of_session n ss one (sym c.in-Some.ensures) c.in_default-ended.is in
     let same = c.requires.repository one (ap (λ (j : Known). find (is_open_at n) j.sessions) (sym c.self.view_is) ∙ there) in
     let count : length one.staged ≡ c.len.result = omega (arith, length-map c.in-Some.found.now.files.entries shown_file, c.len.ensures.len) in
-    subst (FitWhereTold (g.K.Records.tables c.args.records.now))
+    subst (FitWhereTold (g.K.Records.shows c.args.records.now).tables)
     (ap recorded (done-effects c.args.self.now k n c.args.now h.rows one c.self.view_is (sym c.in-Some.ensures) c.in_default-ended.is none bare)
     ∙ items-ended one h.rule.id same c.args.now h.rows (Done (length one.staged))
-    ∙ ap (λ m. recorded (deliveries h one.staged c.args.now) ++ SessionEnded n (Done m) ∷ []) count) c.requires.fits
+    ∙ ap (λ m. recorded (deliveries h one.staged c.args.now) ++ SessionEnded n (Done m) ∷ []) count) c.requires.records.fits
 
 pub end-requires : goal.end-requires
 end-requires g c =
@@ -136,8 +133,8 @@ returns-in-Done-clause-blobs g c =
     ∙ sym (ap (flat_map garbage_by) (done-effects c.args.self.now k n now h.rows one c.self.view_is (sym c.in-Some.ensures) c.in_default-ended.is clear.0 clear.1)
     ∙ blobs-ended one h.rule.id same now h.rows (Done (length one.staged)))
 
-pub returns-in-Done-clause-tables : goal.returns-in-Done-clause-tables
-returns-in-Done-clause-tables g c =
+pub returns-in-Done-clause-records : goal.returns-in-Done-clause-records
+returns-in-Done-clause-records g c =
     let n = c.args.session in
     let now = c.args.now in
     let y = c.self.inside in
@@ -145,36 +142,15 @@ returns-in-Done-clause-tables g c =
     let ss = shown_sessions y.known.entries in
     let k : Known = record { sessions = ss; next = y.next } in
     let one : plain.Session = shown_session (n, c.in-Some.found.now) in
-    let told = g.K.Records.tables c.args.records.now in
     let there = open_of_session n ss one (sym c.in-Some.ensures) c.in_default-ended.is in
     let same = c.requires.repository one (ap (λ (j : Known). find (is_open_at n) j.sessions) (sym c.self.view_is) ∙ there) in
     let count : c.len.result ≡ length one.staged = omega (arith, length-map c.in-Some.found.now.files.entries shown_file, c.len.ensures.len) in
     let clear = done-clear (session_with h.rule.id one.staged) now h.rows (offence h.rows one.staged) (without_pom h.rows one.staged) (Done c.in-Done.count) (due-reply c.in-Done.ensures.reply) in
-    c.in-Done.ensures.tables
-    ∙ ap (λ m. tables_with (recorded (deliveries h one.staged now) ++ SessionEnded n (Done m) ∷ []) told) count
-    ∙ sym (ap (λ (items : List Item). tables_with items told)
-    (ap recorded (done-effects c.args.self.now k n now h.rows one c.self.view_is (sym c.in-Some.ensures) c.in_default-ended.is clear.0 clear.1)
-    ∙ items-ended one h.rule.id same now h.rows (Done (length one.staged))))
-
-pub returns-in-Done-clause-crashes : goal.returns-in-Done-clause-crashes
-returns-in-Done-clause-crashes g c =
-    let n = c.args.session in
-    let now = c.args.now in
-    let y = c.self.inside in
-    let h = c.args.hosted.now in
-    let ss = shown_sessions y.known.entries in
-    let k : Known = record { sessions = ss; next = y.next } in
-    let one : plain.Session = shown_session (n, c.in-Some.found.now) in
-    let told : Option Tables = g.K.Records.tables c.args.records.now in
-    let there = open_of_session n ss one (sym c.in-Some.ensures) c.in_default-ended.is in
-    let same = c.requires.repository one (ap (λ (j : Known). find (is_open_at n) j.sessions) (sym c.self.view_is) ∙ there) in
-    let count : c.len.result ≡ length one.staged = omega (arith, length-map c.in-Some.found.now.files.entries shown_file, c.len.ensures.len) in
-    let clear = done-clear (session_with h.rule.id one.staged) now h.rows (offence h.rows one.staged) (without_pom h.rows one.staged) (Done c.in-Done.count) (due-reply c.in-Done.ensures.reply) in
-    subst (λ (items : List Item). IsCommitted items told (g.K.Records.unsettled c.args.records.now) (g.K.Records.unsettled c.put_all.new.records))
+    subst (λ (items : List Item). Leaves items done (g.K.Records.shows c.args.records.now) (g.K.Records.shows c.put_all.new.records))
     (ap (λ m. recorded (deliveries h one.staged now) ++ SessionEnded n (Done m) ∷ []) count
     ∙ sym (ap recorded (done-effects c.args.self.now k n now h.rows one c.self.view_is (sym c.in-Some.ensures) c.in_default-ended.is clear.0 clear.1)
     ∙ items-ended one h.rule.id same now h.rows (Done (length one.staged))))
-    c.in-Done.ensures.crashes
+    c.in-Done.ensures.records
 
 pub returns-in_default-put_all : goal.returns-in_default-put_all
 returns-in_default-put_all g c =
@@ -186,7 +162,6 @@ returns-in_default-put_all g c =
     let ss = shown_sessions y.known.entries in
     let k : Known = record { sessions = ss; next = y.next } in
     let one : plain.Session = shown_session (n, c.in-Some.found.now) in
-    let told = g.K.Records.tables c.args.records.now in
     let answer = c.put_all.result in
     let refused : is_done answer ≡ false = search rules in
     let there = open_of_session n ss one (sym c.in-Some.ensures) c.in_default-ended.is in
@@ -218,18 +193,13 @@ returns-in_default-put_all g c =
           (λ not. ap (λ (es : List Effect). record h { rows = rows_after_all es h.rows }) (none not));
       blobs = c.refused.ensures.blobs
           ∙ quiet (is_free (shown_commit c.refused.result)) [] (flat_map garbage_by (commit_turn self n now h.rows).effects) (λ not. ap (flat_map garbage_by) (none not));
-      tables = c.put_all.ensures.tables
-          ∙ ap (λ b. cond b (tables_with (recorded (deliveries h one.staged now) ++ SessionEnded n (Done c.len.result) ∷ []) told) told) refused
-          ∙ quiet (is_free (shown_commit c.refused.result)) told (tables_with (recorded (commit_turn self n now h.rows).effects) told)
-          (λ not. ap (λ (es : List Effect). tables_with (recorded es) told) (none not) ∙ sym (told_same told));
-      cause = subst (HasReplyCause (g.K.Records.faults c.args.records.now) (g.K.Records.faults c.put_all.new.records)) (sym c.refused.ensures.reply) c.put_all.ensures.cause;
-      crashes = subst (HasReplyCrash (recorded (commit_turn self n now h.rows).effects) told (g.K.Records.unsettled c.args.records.now) (g.K.Records.unsettled c.put_all.new.records)) (sym c.refused.ensures.reply)
-          (refused-crash told (g.K.Records.unsettled c.args.records.now) (g.K.Records.unsettled c.put_all.new.records) (recorded (deliveries h one.staged now) ++ SessionEnded n (Done c.len.result) ∷ []) (recorded (commit_turn self n now h.rows).effects) answer refused c.put_all.ensures.crashes
+      records = subst (λ (r : Reply). Leaves (recorded (commit_turn self n now h.rows).effects) (end_by r) (g.K.Records.shows c.args.records.now) (g.K.Records.shows c.put_all.new.records)) (sym c.refused.ensures.reply)
+          (refused-leaves (g.K.Records.shows c.args.records.now) (g.K.Records.shows c.put_all.new.records) (recorded (deliveries h one.staged now) ++ SessionEnded n (Done c.len.result) ∷ []) (recorded (commit_turn self n now h.rows).effects) answer refused
+          c.put_all.ensures.records
           (λ not. ap recorded (none (ap is_free c.refused.ensures.reply ∙ not)))
           (λ failed.
           let clear = c.put_all.ensures.asked failed in
           sym (ap recorded (done-effects self k n now h.rows one c.self.view_is (sym c.in-Some.ensures) c.in_default-ended.is clear.0 clear.1)
           ∙ items-ended one h.rule.id same now h.rows (Done (length one.staged))
           ∙ ap (λ m. recorded (deliveries h one.staged now) ++ SessionEnded n (Done m) ∷ []) count)));
-      ready = c.put_all.ensures.ready;
     }

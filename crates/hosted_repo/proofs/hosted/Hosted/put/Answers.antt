@@ -9,7 +9,8 @@ use Rattle.repo_model.specs.Shown.{shown_parcel}
 use Rattle.repo_model.specs.State.{row_at}
 use Rattle.repo_model.specs.Turn.{Turn, put_again, put_at}
 use Rattle.ordered_rows.specs.Standings.{standing, standing_by}
-use Rattle.ordered_rows.specs.Recording.{FitWhereTold}
+use Rattle.row_tables.specs.Leaving.{MayTake}
+use Rattle.repo_model.specs.declared.item.Item.{Item}
 use Rattle.ordered_rows.specs.declared.standings.Standing.TheVariants as stands
 use Rattle.hosted_repo.specs.Releases.{FadesAt}
 use Rattle.hosted_repo.proofs.ReleaseLemmas.{fading-at}
@@ -56,24 +57,26 @@ unlisted_row sent (Some row) e =
       | false ↦ λ h. absurd (let other : stands.Other row.blob.print ≡ stands.Unlisted = h in cc)
     ] e
 
-pub create-requires-clause-fits : goal.create-requires-clause-fits
-create-requires-clause-fits g c =
+pub create-requires-clause-records : goal.create-requires-clause-records
+create-requires-clause-records g c =
     let path = c.args.path.now in
     let blob = shown_parcel c.args.parcel in
     let old = c.args.self.now in
     let rows = c.self.inside.rows in
     let free = ap (λ (k : plain.Hosted). standing blob.print (row_at path k.rows)) (sym c.self.view_is) ∙ ap (λ (s : Print). standing s (row_at path rows)) (sym c.print_of.ensures) ∙ ap (λ rs. standing c.print_of.result (row_at path rs)) (sym c.map.ensures) ∙ sym c.standing.ensures ∙ c.in-Free.is in
-    subst (λ (o : Option plain.Row). FitWhereTold (g.K.Records.tables c.args.records.now) (recorded (put_at old.rule.id path blob.number blob c.args.now o).effects))
-    (no_row blob.print (row_at path old.rows) free) c.requires.fits
+    let records = c.args.records.now in
+    subst (λ (o : Option plain.Row). MayTake (recorded (put_at old.rule.id path blob.number blob c.args.now o).effects) (g.K.Records.shows records))
+    (no_row blob.print (row_at path old.rows) free) c.requires.records
 
-pub relist-requires-clause-fits : goal.relist-requires-clause-fits
-relist-requires-clause-fits g c =
+pub relist-requires-clause-records : goal.relist-requires-clause-records
+relist-requires-clause-records g c =
     let path = c.args.path.now in
     let blob = shown_parcel c.args.parcel in
     let old = c.args.self.now in
     let rows = c.self.inside.rows in
     let faded = ap (λ (k : plain.Hosted). standing blob.print (row_at path k.rows)) (sym c.self.view_is) ∙ ap (λ (s : Print). standing s (row_at path rows)) (sym c.print_of.ensures) ∙ ap (λ rs. standing c.print_of.result (row_at path rs)) (sym c.map.ensures) ∙ sym c.standing.ensures ∙ c.in-Unlisted.is in
-    subst (FitWhereTold (g.K.Records.tables c.args.records.now)) (is_again old.rule.id path blob.number c.args.now blob (row_at path old.rows) faded) c.requires.fits
+    let records = c.args.records.now in
+    subst (λ (items : List Item). MayTake items (g.K.Records.shows records)) (is_again old.rule.id path blob.number c.args.now blob (row_at path old.rows) faded) c.requires.records
 
 pub relist-requires-clause-snapshot : goal.relist-requires-clause-snapshot
 relist-requires-clause-snapshot g c =

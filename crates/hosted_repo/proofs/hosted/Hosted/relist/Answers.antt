@@ -1,9 +1,9 @@
-use Rattle.std.proofs.Common.{[], ◌∷◌, sym, subst}
+use Rattle.std.proofs.Common.{sym, subst}
 use Rattle.repo_model.specs.Data as plain
-use Rattle.repo_model.specs.declared.item.Item.TheVariants.{Relisted}
 use Rattle.repo_model.specs.Effect.{list_again}
 use Rattle.repo_model.specs.State.{is_row}
-use Rattle.ordered_rows.specs.Recording.{FitWhereTold}
+use Rattle.row_tables.specs.Leaving.{MayTake}
+use Rattle.hosted_repo.specs.Puts.{lists_row}
 use Rattle.hosted_repo.specs.Releases.{AllFadeRightly, FadesAt}
 use Rattle.ordered_rows.specs.Rows.{AreFiles, IsFileRow}
 use Rattle.hosted_repo.proofs.FormLemmas.{from-both, relists-change}
@@ -12,11 +12,13 @@ use Rattle.ordered_rows.proofs.EachRow.{each-changed}
 use Rattle.hosted_repo.proofs.hosted.Hosted.relist.Goals as goal
 
 pub relist-requires-clause-change : goal.relist-requires-clause-change
-relist-requires-clause-change g c = relists-change c.self.inside.rule.id c.self.invariant.named c.args.path.now c.args.now c.requires.path c.requires.moment
+relist-requires-clause-change g c = relists-change c.self.inside.rule.id c.self.invariant.named c.args.path.now c.args.now c.requires.form.file c.requires.form.moment
 
-pub relist-requires-clause-fits : goal.relist-requires-clause-fits
-relist-requires-clause-fits g c =
-    subst (λ (h : plain.Hosted). FitWhereTold (g.K.Records.tables c.args.records.now) (Relisted h.rule.id c.args.path.now c.args.now ∷ [])) (sym c.self.view_is) c.requires.fits
+pub relist-requires-clause-records : goal.relist-requires-clause-records
+relist-requires-clause-records g c =
+    let records = c.args.records.now in
+    subst (λ (h : plain.Hosted). MayTake (lists_row h.rule.id c.args.path.now c.args.now) (g.K.Records.shows records))
+    (sym c.self.view_is) c.requires.records
 
 pub relist-requires-clause-faded : goal.relist-requires-clause-faded
 relist-requires-clause-faded g c = subst (λ (h : plain.Hosted). FadesAt c.args.path.now h.rows) (sym c.self.view_is) c.requires.faded

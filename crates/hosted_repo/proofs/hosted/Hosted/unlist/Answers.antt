@@ -5,9 +5,7 @@ use Rattle.repo_model.specs.Data as plain
 use Rattle.repo_model.specs.Effect.{recorded}
 use Rattle.repo_model.specs.Purge.{due_rows, fade_all}
 use Rattle.repo_model.specs.Turn.{seen_at}
-use Rattle.row_tables.specs.Commits.{tables_with}
-use Rattle.row_tables.specs.Crashes.{HasCommitCrash}
-use Rattle.ordered_rows.specs.Recording.{FitWhereTold}
+use Rattle.row_tables.specs.Leaving.{Leaves, MayTake, end_of}
 use Rattle.hosted_repo.specs.Releases.{AllFadeRightly}
 use Rattle.ordered_rows.specs.Rows.{AreFiles, rows_after_all}
 use Rattle.hosted_repo.specs.Fades.{hosted_of}
@@ -18,9 +16,9 @@ use Rattle.hosted_repo.proofs.hosted.Hosted.unlist.Goals as goal
 pub unlist_rows-requires-clause-change : goal.unlist_rows-requires-clause-change
 unlist_rows-requires-clause-change g c = fades-change (hosted_of c.self.inside.rule c.self.inside.rows) c.args.now c.self.invariant.named c.self.invariant.files c.requires.moment
 
-pub unlist_rows-requires-clause-fits : goal.unlist_rows-requires-clause-fits
-unlist_rows-requires-clause-fits g c =
-    subst (λ (h : plain.Hosted). FitWhereTold (g.K.Records.tables c.args.records.now) (recorded (fade_all h c.args.now))) (sym c.self.view_is) c.requires.fits
+pub unlist_rows-requires-clause-records : goal.unlist_rows-requires-clause-records
+unlist_rows-requires-clause-records g c =
+    subst (λ (h : plain.Hosted). MayTake (recorded (fade_all h c.args.now)) (g.K.Records.shows c.args.records.now)) (sym c.self.view_is) c.requires.records
 
 pub invariant_of-self : goal.invariant_of-self
 invariant_of-self g c =
@@ -52,11 +50,6 @@ pub returns-clause-rows : goal.returns-clause-rows
 returns-clause-rows g c =
     with_rows c.unlist_rows.result (hosted_of c.self.inside.rule c.self.inside.rows) c.args.self.now c.unlist_rows.new.rows c.args.now c.self.view_is c.unlist_rows.ensures.rows
 
-pub returns-clause-tables : goal.returns-clause-tables
-returns-clause-tables g c =
-    subst (λ (k : plain.Hosted). OnOk c.unlist_rows.result (g.K.Records.tables c.unlist_rows.new.records ≡ tables_with (recorded (fade_all k c.args.now)) (g.K.Records.tables c.args.records.now)))
-    c.self.view_is c.unlist_rows.ensures.tables
-
 pub returns-clause-err : goal.returns-clause-err
 returns-clause-err g c =
     let h = hosted_of c.self.inside.rule c.self.inside.rows in
@@ -73,8 +66,7 @@ returns-clause-answered g c path other =
     (λ same. ap (λ rows. seen_at rows path (kind path)) same)
     ∙ ap (λ (k : plain.Hosted). seen_at k.rows path (kind path)) c.self.view_is
 
-pub returns-clause-crashes : goal.returns-clause-crashes
-returns-clause-crashes g c =
-    subst
-    (λ (k : plain.Hosted). HasCommitCrash (recorded (fade_all k c.args.now)) (g.K.Records.tables c.args.records.now) (g.K.Records.unsettled c.args.records.now) (g.K.Records.unsettled c.unlist_rows.new.records) c.unlist_rows.result)
-    c.self.view_is c.unlist_rows.ensures.crashes
+pub returns-clause-records : goal.returns-clause-records
+returns-clause-records g c =
+    subst (λ (k : plain.Hosted). Leaves (recorded (fade_all k c.args.now)) (end_of c.unlist_rows.result) (g.K.Records.shows c.args.records.now) (g.K.Records.shows c.unlist_rows.new.records))
+    c.self.view_is c.unlist_rows.ensures.records

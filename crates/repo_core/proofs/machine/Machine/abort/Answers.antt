@@ -64,8 +64,8 @@ invariant_of-self g c =
           ∙ sym (ap (λ (q : Known). q.next) c.abort-did.ensures.sessions ∙ next-if free es k going);
     }
 
-pub returns-clause-turn : goal.returns-clause-turn
-returns-clause-turn g c =
+pub returns : goal.returns
+returns g c =
     let k : Known = c.self.inside.sessions in
     let n = c.args.number in
     let r = shown_abort c.abort-did.result in
@@ -88,8 +88,4 @@ returns-clause-turn g c =
     ∙ ap (λ hs. record s { hosted = hs; sessions = (if free then s.sessions else sessions_after_all es s.sessions); yard = condemned_by (if free then [] else garbage_of es) s.yard }) (sym (given-hosted free es s.hosted gives))
     ∙ end-left settings.grace s.last s es going may orderly.places kept c.self.invariant.blobs c.self.invariant.staged free in
     rw (← c.self.view_is)
-    (recorded-by w new (abort n) t r (g.K.Records.tables c.args.records.now) (g.K.Records.tables c.abort-did.new.records) (g.K.Records.faults c.args.records.now) (g.K.Records.faults c.abort-did.new.records)
-    refl refl (recorded-given t r c.abort-did.ensures.reply) refl refl left c.abort-did.ensures.tables c.abort-did.ensures.cause)
-
-pub returns-clause-crashes : goal.returns-clause-crashes
-returns-clause-crashes g c = rw (← c.self.view_is) c.abort-did.ensures.crashes
+    (recorded-by w new (abort n) t r (g.K.Records.shows c.args.records.now) (g.K.Records.shows c.abort-did.new.records) refl refl (recorded-given t r c.abort-did.ensures.reply) refl refl left c.abort-did.ensures.records)

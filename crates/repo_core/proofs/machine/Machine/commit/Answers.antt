@@ -3,7 +3,7 @@ use Rattle.std.specs.Prelude.{if◌then◌else◌}
 use Rattle.blob_yard.specs.Numbers.{Numbers}
 use Rattle.deploy_session.specs.Known.{Known, sessions_after_all}
 use Rattle.deploy_session.specs.Shown.{shown_commit, blobs_over}
-use Rattle.ordered_rows.specs.Recording.{FitWhereTold}
+use Rattle.row_tables.specs.Leaving.{MayTake}
 use Rattle.repo_model.specs.Command.{commit}
 use Rattle.repo_model.specs.Effect.{recorded}
 use Rattle.repo_model.specs.May.{AllMay}
@@ -28,9 +28,10 @@ commit-did-requires-clause-there g c =
     let orderly = rw (← c.self.view_is) at c.requires.orderly in
     λ one found. open-there c.self.inside.settings c.args.number c.self.inside.sessions.sessions c.self.inside.repos.items one orderly.order.sessions c.self.invariant.rules found
 
-pub commit-did-requires-clause-fits : goal.commit-did-requires-clause-fits
-commit-did-requires-clause-fits g c =
-    subst (λ (w : Parts). FitWhereTold (g.K.Records.tables c.args.records.now) (recorded (commit_in c.args.number w.state.last w.state.sessions w.state.hosted).effects)) (sym c.self.view_is) c.requires.items
+pub commit-did-requires-clause-records : goal.commit-did-requires-clause-records
+commit-did-requires-clause-records g c =
+    let records = c.args.records.now in
+    subst (λ (w : Parts). MayTake (recorded (commit_in c.args.number w.state.last w.state.sessions w.state.hosted).effects) (g.K.Records.shows records)) (sym c.self.view_is) c.requires.records
 
 pub condemn_over-requires : goal.condemn_over-requires
 condemn_over-requires g c =
@@ -77,8 +78,8 @@ invariant_of-self g c =
           ∙ sym (ap (λ (q : Known). q.next) c.commit-did.ensures.sessions ∙ next-if free es k going);
     }
 
-pub returns-clause-turn : goal.returns-clause-turn
-returns-clause-turn g c =
+pub returns : goal.returns
+returns g c =
     let k : Known = c.self.inside.sessions in
     let n = c.args.number in
     let r = shown_commit c.commit-did.result in
@@ -101,8 +102,5 @@ returns-clause-turn g c =
     ∙ ap (λ ns. record s { hosted = (if free then s.hosted else hosted_after_all es s.hosted); sessions = (if free then s.sessions else sessions_after_all es s.sessions); yard = condemned_by ns s.yard }) c.commit-did.ensures.blobs
     ∙ end-left settings.grace s.last s es going may orderly.places kept c.self.invariant.blobs c.self.invariant.staged free in
     rw (← c.self.view_is)
-    (recorded-by w new (commit n) t r (g.K.Records.tables c.args.records.now) (g.K.Records.tables c.commit-did.new.records) (g.K.Records.faults c.args.records.now) (g.K.Records.faults c.commit-did.new.records)
-    refl refl (commit-given t c.commit-did.result c.commit-did.ensures.reply c.commit-did.ensures.asked) refl refl left c.commit-did.ensures.tables c.commit-did.ensures.cause)
-
-pub returns-clause-crashes : goal.returns-clause-crashes
-returns-clause-crashes g c = rw (← c.self.view_is) c.commit-did.ensures.crashes
+    (recorded-by w new (commit n) t r (g.K.Records.shows c.args.records.now) (g.K.Records.shows c.commit-did.new.records) refl refl (commit-given t c.commit-did.result c.commit-did.ensures.reply c.commit-did.ensures.asked) refl refl left
+    c.commit-did.ensures.records)

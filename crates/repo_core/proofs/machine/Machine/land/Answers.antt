@@ -1,7 +1,6 @@
 use Rattle.std.proofs.Common.{◌≡◌, true, refl, sym, ap, ◌∙◌, subst}
 use Rattle.std.specs.Prelude.{IsTrue}
 use Rattle.blob_yard.specs.Numbers.{Numbers}
-use Rattle.ordered_rows.specs.Recording.{FitWhereTold}
 use Rattle.repo_model.specs.Command.{land, meets}
 use Rattle.repo_model.specs.Effect.{recorded}
 use Rattle.repo_model.specs.Shown.{outcome_map, shown_got}
@@ -15,9 +14,9 @@ use Rattle.repo_core.specs.Whole.{Parts}
 use Rattle.repo_core.proofs.ItemForms.{draft-number}
 use Rattle.repo_core.proofs.LandLemmas.{cached-landed, drawn-so, hosted-landed, land-turn, landed-rules, lands-so, proxy-there, recorded-land, staged-landed, there-so}
 use Rattle.repo_parts.proofs.ShelfChanges.{landed-still}
-use Rattle.proxy_rules.specs.Landings.{has_failed, shown_landed}
+use Rattle.proxy_rules.specs.Landings.{has_failed}
 use Rattle.repo_parts.proofs.SessionNumbers.{session-landed}
-use Rattle.row_tables.specs.Crashes.{HasReplyCrash}
+use Rattle.row_tables.specs.Leaving.{MayTake}
 use Rattle.repo_core.proofs.machine.Machine.land.Goals as goal
 
 pub land-did-requires-clause-there : goal.land-did-requires-clause-there
@@ -35,14 +34,15 @@ land-did-requires-clause-draft g c =
     let orderly = rw (← c.self.view_is) at c.requires.orderly in
     λ n is. draft-number _ n orderly.places orderly.order.draft (drawn-so c.args.plan.draft c.self.inside.yard.yard.drafts drawn n is)
 
-pub land-did-requires-clause-fits : goal.land-did-requires-clause-fits
-land-did-requires-clause-fits g c =
+pub land-did-requires-clause-records : goal.land-did-requires-clause-records
+land-did-requires-clause-records g c =
     let w = c.args.self.now in
     let landing = outcome_map shown_got c.args.outcome in
     let inside : is_drawn c.args.plan.draft c.self.inside.yard.yard.drafts ≡ true = cc in
     let drawn : is_drawn c.args.plan.draft w.state.yard.drafts ≡ true = subst (λ (p : Parts). is_drawn c.args.plan.draft p.state.yard.drafts ≡ true) c.self.view_is inside in
-    subst (λ (p : Parts). FitWhereTold (g.K.Records.tables c.args.records.now) (recorded (landing_in p.state.proxies p.state.last c.args.plan c.args.outcome))) (sym c.self.view_is)
-    (subst (λ (t : Turn). FitWhereTold (g.K.Records.tables c.args.records.now) (recorded t.effects)) (land-turn w w c.args.plan landing Kept drawn) c.requires.items)
+    let records = c.args.records.now in
+    subst (λ (p : Parts). MayTake (recorded (landing_in p.state.proxies p.state.last c.args.plan c.args.outcome)) (g.K.Records.shows records)) (sym c.self.view_is)
+    (subst (λ (t : Turn). MayTake (recorded t.effects) (g.K.Records.shows records)) (land-turn w w c.args.plan landing Kept drawn) c.requires.records)
 
 pub settle_landed-requires : goal.settle_landed-requires
 settle_landed-requires g c =
@@ -57,7 +57,7 @@ invariant_of-self g c =
     let proxies = c.self.inside.proxies.items in
     let kept = c.self.inside.yard.kept in
     let files = files_in plan.proxy proxies in
-    let lands = c.land-did.ensures.lands in
+    let lands = c.land-did.ensures in
     let fits = lands-so c.args.self.now.settings plan landing c.requires.meets in
     let changed : is_gone c.changed_by_landing.result ≡ gone_by_landing plan.path (is_of_document landing) (has_failed did) =
     c.changed_by_landing.ensures ∙ ap (λ p. gone_by_landing p c.is_of_document-of_document.result (has_failed did)) c.as_str.ensures ∙ ap (λ b. gone_by_landing plan.path b (has_failed did)) c.is_of_document-of_document.ensures in
@@ -74,25 +74,11 @@ invariant_of-self g c =
       numbers = ap (λ (y : Numbers). y.yard.next_session) c.settle_landed.ensures ∙ session-landed plan.draft did c.self.inside.yard.yard ∙ c.self.invariant.numbers;
     }
 
-pub returns-clause-turn : goal.returns-clause-turn
-returns-clause-turn g c =
+pub returns : goal.returns
+returns g c =
     let landing = outcome_map shown_got c.args.outcome in
     let drawn : is_drawn c.args.plan.draft c.self.inside.yard.yard.drafts ≡ true = cc in
     let met = subst (λ (w : Parts). IsTrue (meets w.settings (land c.args.plan landing))) (sym c.self.view_is) c.requires.meets in
-    let lands = c.land-did.ensures.lands in
+    let lands = c.land-did.ensures in
     rw (c.reply_of_landed.ensures, ← c.self.view_is)
-    (recorded-land _ _ c.args.plan landing c.land-did.result _ _ _ _ drawn met refl refl lands.answered lands.asked (rw (lands.proxies, c.settle_landed.ensures)) lands.tables lands.cause)
-
-pub returns-clause-crashes : goal.returns-clause-crashes
-returns-clause-crashes g c =
-    let w = c.args.self.now in
-    let told = g.K.Records.tables c.args.records.now in
-    let was = g.K.Records.unsettled c.args.records.now in
-    let now = g.K.Records.unsettled c.land-did.new.records in
-    let landing = outcome_map shown_got c.args.outcome in
-    let inside : is_drawn c.args.plan.draft c.self.inside.yard.yard.drafts ≡ true = cc in
-    let drawn : is_drawn c.args.plan.draft w.state.yard.drafts ≡ true = subst (λ (p : Parts). is_drawn c.args.plan.draft p.state.yard.drafts ≡ true) c.self.view_is inside in
-    let reply = shown_landed c.land-did.result in
-    rw c.reply_of_landed.ensures
-    (subst (λ (t : Turn). HasReplyCrash (recorded t.effects) told was now reply) (sym (land-turn w w c.args.plan landing Kept drawn))
-    (subst (λ (p : Parts). HasReplyCrash (recorded (landing_in p.state.proxies p.state.last c.args.plan c.args.outcome)) told was now reply) c.self.view_is c.land-did.ensures.crashes))
+    (recorded-land _ _ c.args.plan landing c.land-did.result (g.K.Records.shows c.args.records.now) (g.K.Records.shows c.land-did.new.records) drawn met refl refl lands.answered lands.asked (rw (lands.proxies, c.settle_landed.ensures)) lands.records)

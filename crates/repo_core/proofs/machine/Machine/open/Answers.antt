@@ -12,7 +12,7 @@ use Rattle.repo_parts.specs.Proxies.{AreCachedInUse}
 use Rattle.repo_core.specs.Whole.{Parts}
 use Rattle.repo_core.proofs.DeployTurns.{due-or-free, open-all, open-left, open-next, turn-open}
 use Rattle.repo_parts.proofs.StagedLemmas.{staged-opened}
-use Rattle.row_tables.specs.Crashes.{HasReplyCrash}
+use Rattle.row_tables.specs.Leaving.{MayTake}
 use Rattle.repo_model.specs.Effect.{recorded}
 use Rattle.repo_model.specs.Turn.{Turn}
 use Rattle.repo_core.proofs.machine.Machine.open.Goals as goal
@@ -41,8 +41,8 @@ invariant_of-self g c =
           ∙ ap (λ (q : Known). q.next) (sym c.begin-begun.ensures.sessions);
     }
 
-pub returns-clause-turn : goal.returns-clause-turn
-returns-clause-turn g c =
+pub returns : goal.returns
+returns g c =
     let k : Known = c.self.inside.sessions in
     let r = shown_begin c.begin-begun.result in
     let repo = c.args.repo.now in
@@ -55,16 +55,16 @@ returns-clause-turn g c =
     ∙ ap (λ (y : Numbers). record s { sessions = (if is_free r then k else known_after (begin_turn k repo).effects k).sessions; yard = y.yard }) c.settle_begun.ensures
     ∙ open-left s repo k refl (sym c.self.invariant.numbers) r given in
     rw (← c.self.view_is)
-    (recorded-by w new (open_session repo) (begin_turn k repo) r (g.K.Records.tables c.args.records.now) (g.K.Records.tables c.begin-begun.new.records) (g.K.Records.faults c.args.records.now)
-    (g.K.Records.faults c.begin-begun.new.records) (turn-open s repo k refl (sym c.self.invariant.numbers) w refl) refl (recorded-given (begin_turn k repo) r c.begin-begun.ensures.reply) refl refl left
-    c.begin-begun.ensures.tables c.begin-begun.ensures.cause)
+    (recorded-by w new (open_session repo) (begin_turn k repo) r (g.K.Records.shows c.args.records.now) (g.K.Records.shows c.begin-begun.new.records) (turn-open s repo k refl (sym c.self.invariant.numbers) w refl) refl
+    (recorded-given (begin_turn k repo) r c.begin-begun.ensures.reply) refl refl left c.begin-begun.ensures.records)
 
-pub returns-clause-crashes : goal.returns-clause-crashes
-returns-clause-crashes g c =
-    let k : Known = c.self.inside.sessions in
-    let repo = c.args.repo.now in
+pub begin-begun-requires : goal.begin-begun-requires
+begin-begun-requires g c =
     let s : State = (c.self.view_is 0).state in
     let w : Parts = c.self.view_is 0 in
-    rw (← c.self.view_is)
-    (subst (λ (t : Turn). HasReplyCrash (recorded t.effects) (g.K.Records.tables c.args.records.now) (g.K.Records.unsettled c.args.records.now) (g.K.Records.unsettled c.begin-begun.new.records) (shown_begin c.begin-begun.result))
-    (sym (turn-open s repo k refl (sym c.self.invariant.numbers) w refl)) c.begin-begun.ensures.crashes)
+    let records = c.args.records.now in
+    record {
+      records =
+          subst (λ (t : Turn). MayTake (recorded t.effects) (g.K.Records.shows records)) (turn-open s c.args.repo.now c.self.inside.sessions refl (sym c.self.invariant.numbers) w refl)
+          (rw (← c.self.view_is) at c.requires.records);
+    }

@@ -2,7 +2,6 @@ use Rattle.std.proofs.Common.{◌≡◌, true, sym, ap, ◌∙◌, subst}
 use Rattle.std.specs.Prelude.{IsTrue}
 use Rattle.blob_yard.specs.Numbers.{Numbers}
 use Rattle.hosted_repo.specs.Puts.{shown_put}
-use Rattle.ordered_rows.specs.Recording.{FitWhereTold}
 use Rattle.repo_model.specs.Command.{meets, put, rule_of}
 use Rattle.repo_model.specs.Effect.{recorded}
 use Rattle.repo_model.specs.Paths.{takes}
@@ -21,7 +20,7 @@ use Rattle.repo_parts.proofs.SessionNumbers.{session-put}
 use Rattle.repo_parts.proofs.ShelfChanges.{put-still}
 use Rattle.repo_parts.proofs.StagedLemmas.{staged-put}
 use Rattle.repo_parts.proofs.UseLemmas.{put-used}
-use Rattle.row_tables.specs.Crashes.{HasReplyCrash}
+use Rattle.row_tables.specs.Leaving.{MayTake}
 use Rattle.repo_core.proofs.machine.Machine.put.Goals as goal
 
 pub repo_mut-requires : goal.repo_mut-requires
@@ -31,27 +30,28 @@ repo_mut-requires g c =
     let fit = fit-so settings c.args.repo.now c.args.path.now c.args.draft (shown_parcel c.args.parcel) asked in
     named-there c.args.repo.now (λ rule. takes rule c.args.path.now) c.self.inside.repos.items (rw c.self.invariant.rules fit)
 
-pub put-outcome-requires-clause-path : goal.put-outcome-requires-clause-path
-put-outcome-requires-clause-path g c =
+pub put-outcome-requires-clause-form : goal.put-outcome-requires-clause-form
+put-outcome-requires-clause-form g c =
     let settings = c.args.self.now.settings in
-    fit-file c.args.path.now (rule_of c.args.repo.now settings) (fit-so settings c.args.repo.now c.args.path.now c.args.draft (shown_parcel c.args.parcel) c.requires.meets)
-
-pub put-outcome-requires-clause-blob : goal.put-outcome-requires-clause-blob
-put-outcome-requires-clause-blob g c =
+    let repo = c.args.repo.now in
+    let path = c.args.path.now in
+    let blob = shown_parcel c.args.parcel in
     let among : is_among c.args.draft c.self.inside.yard.yard.drafts ≡ true = cc in
-    let named = named-so c.args.self.now.settings c.args.repo.now c.args.path.now c.args.draft (shown_parcel c.args.parcel) c.requires.meets in
     let orderly = rw (← c.self.view_is) at c.requires.orderly in
-    subst (λ n. IsTrue (is_number n)) (sym named) (draft-number _ c.args.draft orderly.places orderly.order.draft among)
+    record {
+      moment = c.self.invariant.moment;
+      file = fit-file path (rule_of repo settings) (fit-so settings repo path c.args.draft blob c.requires.meets);
+      number = subst (λ n. IsTrue (is_number n)) (sym (named-so settings repo path c.args.draft blob c.requires.meets)) (draft-number _ c.args.draft orderly.places orderly.order.draft among);
+      length = short-so settings repo path c.args.draft blob c.requires.meets;
+    }
 
-pub put-outcome-requires-clause-length : goal.put-outcome-requires-clause-length
-put-outcome-requires-clause-length g c = short-so c.args.self.now.settings c.args.repo.now c.args.path.now c.args.draft (shown_parcel c.args.parcel) c.requires.meets
-
-pub put-outcome-requires-clause-fits : goal.put-outcome-requires-clause-fits
-put-outcome-requires-clause-fits g c =
+pub put-outcome-requires-clause-records : goal.put-outcome-requires-clause-records
+put-outcome-requires-clause-records g c =
     let among : is_among c.args.draft c.self.inside.yard.yard.drafts ≡ true = cc in
     let named = named-so c.args.self.now.settings c.args.repo.now c.args.path.now c.args.draft (shown_parcel c.args.parcel) c.requires.meets in
-    subst (λ (t : Turn). FitWhereTold (g.K.Records.tables c.args.records.now) (recorded t.effects))
-    (sym (turn-at (c.self.view_is 0) c.args.repo.now c.args.path.now c.args.draft (shown_parcel c.args.parcel) among named c.repo_mut.result.now c.repo_mut.ensures.found)) (rw (← c.self.view_is) at c.requires.items)
+    let records = c.args.records.now in
+    subst (λ (t : Turn). MayTake (recorded t.effects) (g.K.Records.shows records))
+    (sym (turn-at (c.self.view_is 0) c.args.repo.now c.args.path.now c.args.draft (shown_parcel c.args.parcel) among named c.repo_mut.result.now c.repo_mut.ensures.found)) (rw (← c.self.view_is) at c.requires.records)
 
 pub invariant_of-self : goal.invariant_of-self
 invariant_of-self g c =
@@ -75,19 +75,11 @@ invariant_of-self g c =
       numbers = ap (λ (y : Numbers). y.yard.next_session) c.settle_put.ensures ∙ session-put c.args.draft reply c.self.inside.yard.yard ∙ c.self.invariant.numbers;
     }
 
-pub returns-clause-turn : goal.returns-clause-turn
-returns-clause-turn g c =
+pub returns : goal.returns
+returns g c =
     let among : is_among c.args.draft c.self.inside.yard.yard.drafts ≡ true = cc in
     let named = named-so c.args.self.now.settings c.args.repo.now c.args.path.now c.args.draft (shown_parcel c.args.parcel) c.requires.meets in
     let did = c.put-outcome.ensures in
     rw (c.reply_of_put.ensures, ← c.self.view_is)
-    (recorded-put _ c.args.repo.now c.args.path.now c.args.draft (shown_parcel c.args.parcel) among named c.repo_mut.result.now c.repo_mut.ensures.found c.put-outcome.new.self _ (shown_put c.put-outcome.result) _ _ _ _ did.reply did.rows
-    (ap (λ (y : Numbers). y.yard) c.settle_put.ensures) did.tables did.cause)
-
-pub returns-clause-crashes : goal.returns-clause-crashes
-returns-clause-crashes g c =
-    let among : is_among c.args.draft c.self.inside.yard.yard.drafts ≡ true = cc in
-    let named = named-so c.args.self.now.settings c.args.repo.now c.args.path.now c.args.draft (shown_parcel c.args.parcel) c.requires.meets in
-    rw (c.reply_of_put.ensures, ← c.self.view_is)
-    (subst (λ (t : Turn). HasReplyCrash (recorded t.effects) (g.K.Records.tables c.args.records.now) (g.K.Records.unsettled c.args.records.now) (g.K.Records.unsettled c.put-outcome.new.records) (shown_put c.put-outcome.result))
-    (turn-at (c.self.view_is 0) c.args.repo.now c.args.path.now c.args.draft (shown_parcel c.args.parcel) among named c.repo_mut.result.now c.repo_mut.ensures.found) c.put-outcome.ensures.crashes)
+    (recorded-put _ c.args.repo.now c.args.path.now c.args.draft (shown_parcel c.args.parcel) among named c.repo_mut.result.now c.repo_mut.ensures.found c.put-outcome.new.self _ (shown_put c.put-outcome.result) (g.K.Records.shows c.args.records.now)
+    (g.K.Records.shows c.put-outcome.new.records) did.reply did.rows (ap (λ (y : Numbers). y.yard) c.settle_put.ensures) did.records)

@@ -1,10 +1,9 @@
 use Rattle.std.proofs.Common.{◌≡◌, Err, sym, ap, ◌∙◌, subst}
 use Rattle.std.specs.Prelude.{IsTrue}
-use Rattle.ordered_rows.specs.Recording.{FitWhereTold}
 use Rattle.repo_model.specs.Command.{meets, unlist}
 use Rattle.repo_model.specs.Effect.{recorded}
 use Rattle.repo_model.specs.Turn.{unlist_of}
-use Rattle.row_tables.specs.Crashes.{HasCommitCrash}
+use Rattle.row_tables.specs.Leaving.{MayTake}
 use Rattle.repo_parts.specs.Hosted.{AreInUse, rules_of}
 use Rattle.repo_parts.specs.Changes.{gone_by_unlist}
 use Rattle.repo_parts.specs.Shelves.{AreShelved, HaveForgotten}
@@ -21,9 +20,10 @@ repo_mut-requires g c =
     let there = subst (λ (w : Parts). IsTrue (meets w.settings (unlist c.args.repo.now))) (sym c.self.view_is) c.requires.meets in
     rule-there c.args.repo.now c.self.inside.repos.items (rw c.self.invariant.rules there)
 
-pub unlist-did-requires-clause-fits : goal.unlist-did-requires-clause-fits
-unlist-did-requires-clause-fits g c =
-    subst (λ found. FitWhereTold (g.K.Records.tables c.args.records.now) (recorded (unlist_of c.self.inside.last found).effects)) c.repo_mut.ensures.found (rw (← c.self.view_is) at c.requires.items)
+pub unlist-did-requires-clause-records : goal.unlist-did-requires-clause-records
+unlist-did-requires-clause-records g c =
+    let records = c.args.records.now in
+    subst (λ found. MayTake (recorded (unlist_of c.self.inside.last found).effects) (g.K.Records.shows records)) c.repo_mut.ensures.found (rw (← c.self.view_is) at c.requires.records)
 
 pub invariant_of-self : goal.invariant_of-self
 invariant_of-self g c =
@@ -52,37 +52,23 @@ invariant_of-self g c =
       numbers = c.self.invariant.numbers;
     }
 
-pub returns-clause-turn : goal.returns-clause-turn
-returns-clause-turn g c =
+pub returns : goal.returns
+returns g c =
     let old = c.repo_mut.result.now in
     let new = c.unlist-did.new.self in
     let here = c.repo_mut.ensures.found in
+    let before = g.K.Records.shows c.args.records.now in
+    let later = g.K.Records.shows c.unlist-did.new.records in
     elim c.match-did.branch [
       | in-Ok w ↦
           let did = rw w.in-Ok.is at c.unlist-did.ensures in
-          rw (← c.self.view_is, w.result-is) (unlist-done _ c.args.repo.now old new here _ _ _ _ w.in-Ok.count did.count did.rows did.tables did.cause)
+          rw (← c.self.view_is, w.result-is) (unlist-done _ c.args.repo.now old new here before later w.in-Ok.count did.count did.rows did.records)
       | in-Err-Failed w ↦
           let did = rw w.in-Err-Failed.is at c.unlist-did.ensures in
           let fault = rw w.in-Err-Failed.is at w.in-Err-Failed.field-0-is in
-          rw (← c.self.view_is, w.result-is) (unlist-failed _ c.args.repo.now old new here _ _ _ _ did.err did.untold (did.asked (ap Err fault)) (rw fault at did.cause))
+          rw (← c.self.view_is, w.result-is) (unlist-failed _ c.args.repo.now old new here before later did.err (did.asked (ap Err fault)) (rw fault at did.records))
       | in-Err-NoMemory w ↦
           let did = rw w.in-Err-NoMemory.is at c.unlist-did.ensures in
           let fault = rw w.in-Err-NoMemory.is at w.in-Err-NoMemory.field-0-is in
-          rw (← c.self.view_is, w.result-is) (unlist-without _ c.args.repo.now old new here _ _ _ _ did.err did.untold (rw fault at did.cause))
-    ]
-
-pub returns-clause-crashes : goal.returns-clause-crashes
-returns-clause-crashes g c =
-    let crashes =
-    subst
-    (λ found. HasCommitCrash (recorded (unlist_of c.self.inside.last found).effects) (g.K.Records.tables c.args.records.now) (g.K.Records.unsettled c.args.records.now) (g.K.Records.unsettled c.unlist-did.new.records) c.unlist-did.result)
-    (sym c.repo_mut.ensures.found) c.unlist-did.ensures.crashes in
-    elim c.match-did.branch [
-      | in-Ok w ↦ rw (← c.self.view_is, w.result-is) (rw w.in-Ok.is at crashes)
-      | in-Err-Failed w ↦
-          let fault = rw w.in-Err-Failed.is at w.in-Err-Failed.field-0-is in
-          rw (← c.self.view_is, w.result-is) (rw (w.in-Err-Failed.is, fault) at crashes)
-      | in-Err-NoMemory w ↦
-          let fault = rw w.in-Err-NoMemory.is at w.in-Err-NoMemory.field-0-is in
-          rw (← c.self.view_is, w.result-is) (rw (w.in-Err-NoMemory.is, fault) at crashes)
+          rw (← c.self.view_is, w.result-is) (unlist-without _ c.args.repo.now old new here before later did.err (rw fault at did.records))
     ]
