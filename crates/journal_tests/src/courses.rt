@@ -64,8 +64,8 @@ fn end_of_load<R: Records>(alloc: Global, records: &mut R) -> End {
 
 // Both further changes.
 fn goes_on<R: Records>(alloc: Global, records: &mut R, course: &Course<'_>) -> (End, End)
-    requires ready { R.ready records.old }
-    requires untold { R.tables records.old ≡ None }
+    requires ready { (R.shows records.old).IsReady }
+    requires untold { (R.shows records.old).tables ≡ None }
 {
     let second = commits(alloc, records, course.second);
     let third = commits(alloc, records, course.third);
@@ -74,8 +74,8 @@ fn goes_on<R: Records>(alloc: Global, records: &mut R, course: &Course<'_>) -> (
 
 // What comes after the load.
 fn begins<R: Records>(alloc: Global, records: &mut R, course: &Course<'_>) -> Ends
-    requires ready { R.ready records.old }
-    requires untold { R.tables records.old ≡ None }
+    requires ready { (R.shows records.old).IsReady }
+    requires untold { (R.shows records.old).tables ≡ None }
 {
     let first = commits(alloc, records, course.first);
     let (second, third) = if course.loads_again {
@@ -92,7 +92,7 @@ fn begins<R: Records>(alloc: Global, records: &mut R, course: &Course<'_>) -> En
 }
 
 fn drive<R: Records>(alloc: Global, records: &mut R, course: &Course<'_>) -> Ends
-    requires { R.tables records.old ≡ None }
+    requires { (R.shows records.old).tables ≡ None }
 {
     match records.load(alloc) {
         Ok(_) => begins(alloc, records, course),

@@ -85,6 +85,27 @@ fn each_call_does_what_it_says(rt: HostRuntime) -> Result<(), Fail> {
     Ok(())
 }
 
+// A disk over a device that takes bytes and keeps none, in the folder of the system's devices.
+fn keeps_nothing(rt: &HostRuntime) -> io::Result<FileDisk<File>> {
+    let mut how = OpenOptions::new();
+    how.read(true).write(true);
+    Ok(FileDisk::new(how.open(rt, "/dev/null")?, fs::open(rt, "/dev")?))
+}
+
+fn syncs<D: Disk>(disk: &mut D) -> bool {
+    disk.sync().is_ok()
+}
+
+// What the system cannot keep is not taken for kept, however often it is asked.
+#[test]
+fn a_device_that_keeps_nothing_is_not_synced(rt: HostRuntime) -> Result<(), Fail> {
+    let mut disk = keeps_nothing(&rt)?;
+    assert!(rt; writes(&mut disk, 0, b"abc"));
+    assert!(rt; !syncs(&mut disk));
+    assert!(rt; !syncs(&mut disk));
+    Ok(())
+}
+
 // A disk of four bytes. Its first, third and fourth call fail, and of a write that fails two bytes are made.
 fn failing_disk(alloc: Global) -> Result<MemDisk, AllocError> {
     let room = DiskRoom {

@@ -36,8 +36,8 @@ fn make_folder(rt: &HostRuntime, file: &[u8]) -> io::Result<()> {
 
 // Opens the session after the last one of these tables.
 fn opens_next<R: Records>(alloc: Global, records: &mut R, tables: Tables) -> Option<u8>
-    requires ready { R.ready records.old }
-    requires untold { R.tables records.old ≡ None }
+    requires ready { (R.shows records.old).IsReady }
+    requires untold { (R.shows records.old).tables ≡ None }
 {
     let last = last_session(alloc, tables).ok()?;
     match commits(alloc, records, &opened(last.saturating_add(1))) {
@@ -48,7 +48,7 @@ fn opens_next<R: Records>(alloc: Global, records: &mut R, tables: Tables) -> Opt
 
 // The last session that records have, after which the next one is opened.
 fn continues<R: Records>(alloc: Global, records: &mut R) -> Option<u8>
-    requires { R.tables records.old ≡ None }
+    requires { (R.shows records.old).tables ≡ None }
 {
     match records.load(alloc) {
         Ok(tables) => opens_next(alloc, records, tables),

@@ -73,10 +73,10 @@ fn end_of(answer: Result<(), CommitFault>) -> End {
 }
 
 fn add<R: Records>(alloc: Global, records: &mut R, change: &Change) -> End
-    requires ready { R.ready records.old }
-    requires untold { R.tables records.old ≡ None }
-    ensures untold { R.tables records.new ≡ None }
-    ensures ready { R.ready records.new }
+    requires ready { (R.shows records.old).IsReady }
+    requires untold { (R.shows records.old).tables ≡ None }
+    ensures untold { (R.shows records.new).tables ≡ None }
+    ensures ready { (R.shows records.new).IsReady }
 {
     if !change.is_whole() {
         return End::NoMemory;
@@ -86,10 +86,10 @@ fn add<R: Records>(alloc: Global, records: &mut R, change: &Change) -> End
 
 // Commits the change of these bytes, whose files have SHA-256 and SHA-512. Of no bytes there is nothing to commit.
 pub fn commits<R: Records>(alloc: Global, records: &mut R, bytes: &[u8]) -> End
-    requires ready { R.ready records.old }
-    requires untold { R.tables records.old ≡ None }
-    ensures untold { R.tables records.new ≡ None }
-    ensures ready { R.ready records.new }
+    requires ready { (R.shows records.old).IsReady }
+    requires untold { (R.shows records.old).tables ≡ None }
+    ensures untold { (R.shows records.new).tables ≡ None }
+    ensures ready { (R.shows records.new).IsReady }
 {
     if bytes.is_empty() {
         return End::Skipped;
@@ -107,7 +107,7 @@ pub fn loads<R: Records>(alloc: Global, records: &mut R) -> bool {
 
 // Loads records and opens this session; whether it got there.
 pub fn opens<R: Records>(alloc: Global, records: &mut R, session: u8) -> bool
-    requires { R.tables records.old ≡ None }
+    requires { (R.shows records.old).tables ≡ None }
 {
     match records.load(alloc) {
         Ok(_) => commits(alloc, records, &opened(session)) == End::Done,

@@ -1,3 +1,6 @@
+ghost use Rattle.std.specs.Prelude.{None};
+ghost use Rattle.row_tables.specs.Crashes.{nothing_unsettled};
+
 use row_tables::{Change, CommitFault, LoadFault, Records, Tables};
 use std::alloc::Global;
 
@@ -6,9 +9,12 @@ use std::alloc::Global;
 pub struct NoRecords;
 
 impl Records for NoRecords {
-    ghost faults = { λ _. 0 };
-
-    ghost ready = { λ _. Unit {0} };
+    ghost shows = { λ _. record {
+      tables = None;
+      faults = 0;
+      unsettled = nothing_unsettled;
+      IsReady = Unit {0};
+    } };
 
     ghost rests = { λ r ready t told. tt };
 
