@@ -63,7 +63,7 @@ module _ (settings : Settings) where
         pub made : entries ≡ entries_in turns
         pub answered : AllAnsweredByCause settings tells start history past rest old turns
 
-      turn-first : (last : Bool) (past entries rest : List Entry) (old new : Outside) (stop : Option End) → own_of history ≡ past ++ (entries ++ rest)
+      pub turn-first : (last : Bool) (past entries rest : List Entry) (old new : Outside) (stop : Option End) → own_of history ≡ past ++ (entries ++ rest)
           → RequestTurn settings tells last entries old new stop
           → IsAnsweredByCause settings tells last entries old new stop × AllCaused settings tells start history past [] entries rest
       turn-first last past entries rest old new stop own t =

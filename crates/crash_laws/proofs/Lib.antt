@@ -1,4 +1,4 @@
-mod Fronts
+pub mod Fronts
 mod Outlasting
 mod OutlastingFiles
 mod Again

@@ -11,13 +11,19 @@ use Rattle.run_desks.specs.Seen.{DeskResources, Looks}
 use Rattle.turn_lock.specs.declared.view.Entry.{Entry as Call}
 use Rattle.turn_lock.specs.declared.turns.Turns.{Turns}
 use Rattle.turn_lock.specs.declared.seat.SeatToken.{SeatToken as Seat}
-use Rattle.turn_lock.specs.History.{entries_by}
-use Rattle.turn_lock.specs.Seats.{number}
+use mathlib.Core.Option.{some}
+use lib.ListN.{get_elem?}
+use Rattle.atomic_table.specs.Table.{State as Shared}
+use Rattle.turn_lock.specs.declared.view.Slot.{Slot}
+use Rattle.turn_lock.specs.declared.view.View.{View}
+use Rattle.turn_lock.specs.History.{AllKept, entries_by}
+use Rattle.turn_lock.specs.Rule.{Kept, accounts}
+use Rattle.turn_lock.specs.Seats.{mine, number}
 use Rattle.turn_seats.specs.Ending.{HoldsSeat}
 use Rattle.turn_seats.specs.Seated.{Sight, entry_of}
 use Rattle.answer_laws.specs.Marked.{Mark, entries_of as entries_marked, own_of}
 use Rattle.answer_laws.proofs.Due.{stream-answered}
-use Rattle.desk_work.specs.Visits.{Attends, Visit, entries_of}
+use Rattle.desk_work.specs.Visits.{Attended, Attends, Visit, entries_of}
 use Rattle.seat_server.specs.Rules.{Rules}
 use Rattle.desk_work.specs.Working.{DeskDone}
 use Rattle.desk_laws.specs.Answered.{ConnectionAnswered, DeskAnswered, VisitsAnswered, marked_by}
@@ -52,24 +58,31 @@ module _ (settings : Settings) (start : State) (history : List Mark) (legal : Le
   )
 
 module _ {L P D T C R : Type 0} (looks : Looks L P D) (settings : Settings) (rules : Rules T C R)
-    (turns : Turns T C R) (first : Seat C R T) (start : State) (log : List (Call C R T)) (legal : Legal settings start (map (entry_of rules.sight) log)) where
-  desk-answered : (desk : D) (out : Seat C R T × (D × Bool)) → DeskDone looks rules settings turns first desk out → HoldsSeat log out.0
-      → DeskAnswered looks settings rules.sight start log desk out.1.0
-  desk-answered desk out (own, begun, (did, over)) holds =
-      let k = number out.0 in
-      let calls : did.gained.calls ≡ entries_by k log = ap (λ (cs : List (Call C R T)). cs ++ did.gained.calls) (sym begun.1) ∙ sym did.gained.mine_are ∙ holds.1.0 in
+    (turns : Turns T C R) (start : State) (log : List (Call C R T)) (legal : Legal settings start (map (entry_of rules.sight) log)) where
+  -- what a desk has served so far, with a seat that had made no call before, by any history that holds what this has made
+  pub so-far-answered : (own new : Seat C R T) (desk back : D) → mine own ≡ [] → Attended looks rules settings turns own new desk back → HoldsSeat log new
+      → DeskAnswered looks settings rules.sight start log desk back
+  so-far-answered own new desk back none did holds =
+      let k = number new in
+      let calls : did.gained.calls ≡ entries_by k log = ap (λ (cs : List (Call C R T)). cs ++ did.gained.calls) (sym none) ∙ sym did.gained.mine_are ∙ holds.1.0 in
       let entries : entries_of did.visits ≡ map (entry_of rules.sight) (entries_by k log) = did.gained.entries_are ∙ ap (map (entry_of rules.sight)) calls in
-      let mine : own_of (marked_by rules.sight k log) ≡ entries_of did.visits = marked-own rules.sight k log ∙ sym entries in
+      let own_are : own_of (marked_by rules.sight k log) ≡ entries_of did.visits = marked-own rules.sight k log ∙ sym entries in
       record {
         number = k;
         visits = did.visits;
         attends = did.attends;
         came = did.came;
         went = did.went;
-        own = mine;
+        own = own_are;
         answered = visits-answered settings start (marked_by rules.sight k log) (subst (Legal settings start) (sym (marked-entries rules.sight k log)) legal) looks [] (looks.resources desk)
-            (looks.resources out.1.0) did.visits mine did.attends;
+            (looks.resources back) did.visits own_are did.attends;
       }
+
+module _ {L P D T C R : Type 0} (looks : Looks L P D) (settings : Settings) (rules : Rules T C R)
+    (turns : Turns T C R) (first : Seat C R T) (start : State) (log : List (Call C R T)) (legal : Legal settings start (map (entry_of rules.sight) log)) where
+  desk-answered : (desk : D) (out : Seat C R T × (D × Bool)) → DeskDone looks rules settings turns first desk out → HoldsSeat log out.0
+      → DeskAnswered looks settings rules.sight start log desk out.1.0
+  desk-answered desk out (own, begun, (did, over)) holds = so-far-answered looks settings rules turns start log legal own out.0 desk out.1.0 begun.1 did holds
 
   pub desks-answered : (desks : List D) (outs : List (Seat C R T × (D × Bool))) → AllZip (DeskDone looks rules settings turns first) desks outs
       → All (HoldsSeat log) (map (λ (out : Seat C R T × (D × Bool)). out.0) outs)
@@ -81,3 +94,12 @@ module _ {L P D T C R : Type 0} (looks : Looks L P D) (settings : Settings) (rul
     desk-answered d o done.0 (All-head (HoldsSeat log) o.0 (map (λ (out : Seat C R T × (D × Bool)). out.0) os) held),
     desks-answered ds os done.1 (All-tail (HoldsSeat log) o.0 (map (λ (out : Seat C R T × (D × Bool)). out.0) os) held),
   )
+
+-- at any time the one history begins with what each seat has seen, and has of its callers just their entries
+module _ {C R T : Type 0} (log : List (Call C R T)) where
+  pub holds-seat : (steps : T → C → R → T → Type 0) (x : T) (s : Shared (Slot C R T) (View C R T)) (seat : Seat C R T) (by : ℕ) → Kept steps x log s
+      → get_elem? s.views by ≡ some seat.token.me.0 → seat.token.me.0.named ≡ true → HoldsSeat log seat
+  holds-seat steps x s seat by kept is named =
+      let v : View C R T = seat.token.me.0 in
+      let accounts_are : accounts v ≡ (v.number, v.mine) ∷ v.joined = ap (λ (b : Bool). cond b ((v.number, v.mine) ∷ v.joined) v.joined) named in
+      ((kept.word.seen by v is).0, subst (AllKept log) accounts_are (kept.callers.kept by v is))

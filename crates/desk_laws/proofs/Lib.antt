@@ -1,7 +1,7 @@
 mod Fitting
 mod Streams
 mod Servers
-mod Desks
+pub mod Desks
 mod Seats
 mod Fetched
 mod Drawn

@@ -62,7 +62,7 @@ pub record GoesOn (settings : Settings) (old : Whole) (t : Tables) (made : List 
 
 module _ (settings : Settings) where
   -- of a put that may be made the repository is there, and the path is that of a file
-  put-place : (repo path : List ℕ) (n : ℕ) (blob : Blob) (command : Command) → command ≡ put repo path n blob → IsTrue (meets settings command)
+  pub put-place : (repo path : List ℕ) (n : ℕ) (blob : Blob) (command : Command) → command ≡ put repo path n blob → IsTrue (meets settings command)
       → IsTrue (is_there repo settings) × ((c : Coordinates) × (kind path ≡ Ok (File c)))
   put-place repo path n blob command is met =
       takes-what (rule_of repo settings) (kind path) (is_parcel n blob) (subst (λ (what : Command). IsTrue (meets settings what)) is met)
@@ -126,7 +126,7 @@ module _ (settings : Settings) where
         (calls-go-on log call.after (tables_after settings x.state e t) legal.1 (turn.same ∙ settings_are) (told-next e x call.after t settings_are told_so turn))
 
   -- the first of some that were made
-  first-ones : (first rest : List Made) (s : State) (t : Tables) (old : Unsettled) → Legal settings s (entries_made (first ++ rest)) → AreMade settings s t (first ++ rest) old
+  pub first-ones : (first rest : List Made) (s : State) (t : Tables) (old : Unsettled) → Legal settings s (entries_made (first ++ rest)) → AreMade settings s t (first ++ rest) old
       → Legal settings s (entries_made first) × AreMade settings s t first old
   first-ones [] rest s t old legal are = (tt, tt)
   first-ones (m ∷ first) rest s t old legal are =
@@ -134,12 +134,12 @@ module _ (settings : Settings) where
       ((legal.0, more.0), (are.0, more.1))
 
   -- what is pending along what was made, and what a crash leaves
-  pend-of : (made : List Made) (s : State) (t : Tables) (old : Unsettled) → AreMade settings s t made old
+  pub pend-of : (made : List Made) (s : State) (t : Tables) (old : Unsettled) → AreMade settings s t made old
       → PendAlong settings s (entries_made made) old.pending (unsettled_after old made).pending
   pend-of [] s t old are = refl
   pend-of (m ∷ made) s t old are = (m.leaves.pending, are.0.pends, pend-of made (after settings s m.entry) (tables_after settings s m.entry t) m.leaves are.1)
 
-  runs-of : (made : List Made) (s : State) (t : Tables) (old : Unsettled) → AreMade settings s t made old → CrashesAlong settings s t (entries_made made) old (unsettled_after old made)
+  pub runs-of : (made : List Made) (s : State) (t : Tables) (old : Unsettled) → AreMade settings s t made old → CrashesAlong settings s t (entries_made made) old (unsettled_after old made)
   runs-of [] s t old are = refl
   runs-of (m ∷ made) s t old are = (m.leaves, are.0, runs-of made (after settings s m.entry) (tables_after settings s m.entry t) m.leaves are.1)
 
@@ -172,7 +172,7 @@ module _ (settings : Settings) where
       ∙ ap (λ (u : Tables). with_items u (told settings (end settings s (x ∷ xs)) ys)) (sym (fold-append item_on t items (told settings (after settings s x) xs)))
 
   -- what is found since one of them returned
-  since : (P : Tables → Type 0) (s : State) (t : Tables) (old : Unsettled) (first later : List Made) (m : Made)
+  pub since : (P : Tables → Type 0) (s : State) (t : Tables) (old : Unsettled) (first later : List Made) (m : Made)
       → ((u : Tables) → IsOneOf u (left_behind settings s t old (first ++ m ∷ later)) → P u) → FindsAlways P m.leaves.trace (unsettled_after m.leaves later).trace
       → FindsSince settings s t old P (first ++ m ∷ []) later
   since P s t old first later m between always =
@@ -200,7 +200,7 @@ module _ (settings : Settings) where
 
   module _ (apart : AreNamedApart settings.hosted) (proxies : AreProxiesApart settings.proxies) where
     -- where one that was made stands: the tables there and what was unsettled before it, what is known of these, and what is left after it
-    reached : (first later rest : List Made) (m : Made) (s : State) (t : Tables) (old : Unsettled) → IsSound settings s → InOrder t → Holds t s
+    pub reached : (first later rest : List Made) (m : Made) (s : State) (t : Tables) (old : Unsettled) → IsSound settings s → InOrder t → Holds t s
         → Legal settings s (entries_made (first ++ m ∷ (later ++ rest))) → AreMade settings s t (first ++ m ∷ (later ++ rest)) old
         → (there : Tables) × (left : Unsettled) × IsSound settings (end settings s (entries_made first)) × InOrder there
         × Holds there (end settings s (entries_made first)) × Legal settings (end settings s (entries_made first)) (m.entry ∷ entries_made (later ++ rest))

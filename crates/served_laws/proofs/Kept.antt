@@ -118,7 +118,7 @@ bytes-stand settings start t old shelf made outlast = record {
 }
 
 -- what is true of all entries is of each
-all-among : (P : Entry → Type 0) (e : Entry) (entries : List Entry) → AllByRecursion P entries → IsAmong e entries → P e
+pub all-among : (P : Entry → Type 0) (e : Entry) (entries : List Entry) → AllByRecursion P entries → IsAmong e entries → P e
 all-among P e [] all among = absurd among
 all-among P e (x ∷ xs) all (inl same) = subst P same all.0
 all-among P e (x ∷ xs) all (inr more) = all-among P e xs all.1 more

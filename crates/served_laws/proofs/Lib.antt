@@ -1,11 +1,11 @@
 mod Woven
 mod Showing
-mod Crashed
-mod Runs
+pub mod Crashed
+pub mod Runs
 mod Swept
 mod Refused
-mod Kept
+pub mod Kept
 mod Servers
 mod Opened
-mod Across
+pub mod Across
 mod Restarts

@@ -70,14 +70,14 @@ told-completed shelf None new is = is
 told-completed shelf (Some old) new (whole, is, digested) = (whole, is, completes-so shelf old whole digested)
 
 module _ (settings : Settings) (records : Recorded) (old cleared : Store) (clock : Option Moments) (core : Whole) (begins : Begins settings records old cleared clock core) where
-  apart : AreNamedApart settings.hosted
+  pub apart : AreNamedApart settings.hosted
   apart = named-apart settings begins.form
 
   -- the tables that were completed
   completes : Completes begins.completed.0 begins.tables
   completes = completes-so old.shelf begins.completed.0 begins.tables begins.completed.2
 
-  whole-order : InOrder begins.tables
+  pub whole-order : InOrder begins.tables
   whole-order = completed-order begins.completed.0 begins.tables completes (built-order begins.completed.0 begins.completed.1.built)
 
   whole-range : InRange begins.tables
