@@ -2,7 +2,7 @@
 //
 //   asks PORT TARGET GET|HEAD CONNECTIONS SECONDS PAUSE FILE
 //
-// PAUSE is what a connection waits behind an answer, in milliseconds; FILE has the bytes that are asked for. Prints how many
+// PAUSE is how long a connection waits after an answer, in milliseconds; FILE has the bytes that are asked for. Prints how many
 // answers came, how many of them were others than expected, the seconds that it took, and the longest wait for an answer.
 #include <arpa/inet.h>
 #include <netinet/tcp.h>

@@ -62,7 +62,7 @@ def listens(port, pid):
 
 
 def wait_for(port, process):
-    """Waits until the process listens to the port, and ends the script where it has ended before."""
+    """Waits until the process listens to the port, and ends the script if it has ended before."""
     for _ in range(2000):
         if listens(port, process.pid):
             return
@@ -73,7 +73,7 @@ def wait_for(port, process):
 
 
 def begin(program, settings, data, port, through=()):
-    """A server over the folder `data`, which listens; it is started by the words of `through`, where there are some."""
+    """A server over the folder `data`, which listens; it is started by the words of `through`, if there are some."""
     if not os.access(program, os.X_OK):
         sys.exit(f"no program at {program}; --help says how it is built")
     server = subprocess.Popen([*through, os.path.abspath(program), "serve", settings, data, str(port)], stderr=subprocess.PIPE)
@@ -109,7 +109,7 @@ def asked_often(room, port, method, path, links, seconds, file, pause=0):
 
 
 def got_often(port, path, links, seconds):
-    """How many GETs a second are answered, by wrk, and for how many seconds it asked: for longer where none was answered in the time."""
+    """How many GETs a second are answered, by wrk, and for how many seconds it asked: for longer if none was answered in the time."""
     for _ in range(6):
         words = ["wrk", "-t", str(min(links, 2)), "-c", str(links), "-d", f"{seconds}s", "--timeout", "10s", f"http://127.0.0.1:{port}{path}"]
         said = subprocess.run(words, capture_output=True, check=True).stdout.decode()
@@ -194,7 +194,7 @@ def processor(pid):
 
 
 class Figures:
-    """Figures beside what is wanted of them. The script that looked at them ends with 1 where one is missed."""
+    """Figures beside what is wanted of them. The script that looked at them ends with 1 if one is missed."""
 
     def __init__(self):
         self.missed = []
